@@ -1,0 +1,11 @@
+pub mod Between
+pub mod Bounds
+pub mod DecimalLemmas
+pub mod NewtonLemmas
+pub mod NumberLemmas
+pub mod PutLemmas
+pub mod RootLaws
+pub mod RootLemmas
+pub mod RoundingLaws
+pub mod RoundingLemmas
+pub mod Within
