@@ -1,0 +1,13 @@
+pub mod Tokens
+pub mod Sections
+pub mod Order
+pub mod Lines
+pub mod Faults
+pub mod Names
+pub mod Numbers
+pub mod Readings
+pub mod Gather
+pub mod Merge
+pub mod Sources
+pub mod Laws
+pub mod Example

@@ -1,0 +1,10 @@
+pub mod ScanLemmas
+pub mod SectionLemmas
+pub mod TokenLemmas
+pub mod LineLemmas
+pub mod GrammarLemmas
+pub mod CutLemmas
+pub mod GatherLemmas
+pub mod MergeLemmas
+pub mod NameLemmas
+pub mod ZipLemmas

@@ -1,0 +1,56 @@
+// The fault of a line.
+ghost use Rattle.std.specs.Prelude.{◌≡◌, ◌∷◌, ◌++◌, [], OnOk, IfOk, ◌≤◌, length};
+ghost use Rattle.inp_lines.specs.Faults.{line_fault, cut, token_at};
+
+use std::alloc::Global;
+
+use net_types::{LineFault, List, OutOfMemory, Text};
+
+use crate::line::Line;
+
+/// A fault of a line while the line is at hand: the fault's number and the place of the token at fault, counted
+/// from 0. A place past the last token stands for the empty token.
+#[derive(Clone, Copy, Debug, PartialEq, Eq)]
+pub struct Fault {
+    pub number: u32,
+    pub place: usize,
+}
+
+/// A copy of the token at a place of a line; past the last there is the empty token.
+pub fn copy_token(alloc: Global, line: &Line, place: usize) -> Result<Text, OutOfMemory>
+    ensures { IfOk result (λ token. token ≡ token_at line.now.tokens place) }
+{
+    match line.tokens.as_slice().get(place) {
+        Some(token) => Text::from_slice(alloc, token.as_slice()),
+        None => Text::from_slice(alloc, &[]),
+    }
+}
+
+/// The fault with its line's number and a copy of the token at fault.
+pub fn fault_of_line(alloc: Global, line: &Line, fault: Fault) -> Result<LineFault, OutOfMemory>
+    ensures { IfOk result (λ made. made ≡ line_fault line.now fault) }
+{
+    Ok(LineFault {
+        line: line.number,
+        number: fault.number,
+        token: copy_token(alloc, line, fault.place)?,
+    })
+}
+
+/// Appends the fault of a line to a list that keeps the first hundred faults.
+pub fn add_fault(
+    alloc: Global,
+    faults: &mut List<LineFault>,
+    line: &Line,
+    fault: Fault,
+) -> Result<(), OutOfMemory>
+    requires short { length faults.old ≤ 100 }
+    ensures short { OnOk result (length faults.new ≤ 100) }
+    ensures faults { OnOk result (faults.new ≡ cut (faults.old ++ line_fault line.now fault ∷ [])) }
+{
+    if faults.as_slice().len() < 100 {
+        let made = fault_of_line(alloc, line, fault)?;
+        faults.push(made)?;
+    }
+    Ok(())
+}
