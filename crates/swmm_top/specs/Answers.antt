@@ -1,0 +1,39 @@
+-- What an answer of a top call says of its ports.
+use Rattle.std.specs.Prelude.{◌≡◌, ◌⊎◌, ℕ, ◌+◌, List, Option, Some, Result, IfSome, IsSome, IfOk, OnOk, OnErr, IfErr, IsErrOf, drop}
+use Rattle.std.specs.Io.KnownBytes.{Appends}
+use Rattle.fault_ports.specs.Causes.{Rose}
+use Rattle.fault_ports.specs.Output.{AppendsPrefix, Puts}
+use Rattle.swmm_top.specs.CommandWords.{Command}
+use Rattle.swmm_top.specs.Input.{input_limit}
+use Rattle.swmm_top.specs.Outcome.{Outcome}
+use Rattle.swmm_top.specs.TopFaults.{IsFaultOfPort}
+use Rattle.swmm_top.specs.declared.status.Status.{Status}
+use Rattle.swmm_top.specs.declared.fault.Port.TheVariants.{Inp, HotIn, Rpt, HotOut}
+use Rattle.swmm_top.specs.declared.fault.TopFault.{TopFault}
+use Rattle.swmm_top.specs.declared.fault.TopFault.TheVariants.{Read, Write, OutOfMemory}
+
+-- where the call ended, its status is that of the outcome, and the report and the hotstart gained the bytes of the
+-- outcome; else the report gained a front of the outcome's report
+pub record HasGiven (given : Outcome) (rpt₀ rpt hot₀ hot : Option (List ℕ)) (result : Result Status TopFault) : Type 0 where
+  pub status : IfOk result (λ status. status ≡ given.status)
+  pub report : OnOk result (Appends rpt₀ rpt given.report)
+  pub hotstart : OnOk result (Appends hot₀ hot given.hotstart)
+  pub report_prefix : OnErr result (AppendsPrefix rpt₀ rpt given.report)
+
+-- the same of the report alone
+pub record HasReported (given : Outcome) (rpt₀ rpt : Option (List ℕ)) (result : Result Status TopFault) : Type 0 where
+  pub status : IfOk result (λ status. status ≡ given.status)
+  pub report : Puts rpt₀ rpt given.report result
+
+-- a fault comes only where the count of faults of its port rose, and where no count rose only memory can be wanting
+pub record HasCauses (inp₀ inp hot_in₀ hot_in rpt₀ rpt hot_out₀ hot_out : ℕ) (result : Result Status TopFault) : Type 0 where
+  pub read_input : IsErrOf result (Read Inp) → Rose inp₀ inp
+  pub read_hotstart : IsErrOf result (Read HotIn) → Rose hot_in₀ hot_in
+  pub write_report : IsErrOf result (Write Rpt) → Rose rpt₀ rpt
+  pub write_hotstart : IsErrOf result (Write HotOut) → Rose hot_out₀ hot_out
+  pub ports : IfErr result IsFaultOfPort
+  pub complete : OnErr result (IsErrOf result OutOfMemory ⊎ (Rose inp₀ inp ⊎ (Rose hot_in₀ hot_in ⊎ (Rose rpt₀ rpt ⊎ Rose hot_out₀ hot_out))))
+
+-- where the call ended, the input of a command was read to its end, or until one byte more than the limit was taken
+abbrev pub ReadsToEnd : Option Command → Option (List ℕ) → Option (List ℕ) → Result Status TopFault → Type 0
+ReadsToEnd command old new result = OnOk result (IsSome command → IfSome old (λ input. new ≡ Some (drop (input_limit + 1) input)))

@@ -1,0 +1,7 @@
+pub mod Answers
+pub mod CommandWords
+pub mod Input
+pub mod Names
+pub mod Outcome
+pub mod Plain
+pub mod TopFaults

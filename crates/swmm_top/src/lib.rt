@@ -1,0 +1,22 @@
+//! The commands of the program over ports that can fail. `swmm_top` does a command; its contract is the headline of
+//! the repository: where it answers, the status and the bytes that the report and the hotstart gained are the outcome
+//! of the words and the bytes alone (`specs/Outcome.antt`), the input was read to its end, and every fault has its
+//! cause in the count of its own port (`specs/Answers.antt`). `run_alone_top` and `check_top` carry the same clauses
+//! for their commands and always return. `file_names` gives the names that the words have
+//! (`specs/CommandWords.antt`, `specs/Names.antt`).
+#![tactic(auto)]
+
+mod command;
+mod fault;
+mod input;
+mod names;
+mod report;
+mod status;
+#[cfg(test)]
+mod tests;
+mod top;
+
+pub use fault::{Port, TopFault};
+pub use names::{FileNames, file_names};
+pub use status::Status;
+pub use top::{INPUT_LIMIT, check_top, run_alone_top, swmm_top};

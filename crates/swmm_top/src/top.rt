@@ -1,0 +1,148 @@
+// The commands.
+ghost use Rattle.std.specs.Prelude.{◌≡◌, ◌⊎◌, ◌+◌, ◌-◌, ◌^◌, ◌≤◌, ◌↔◌, min, [], None, Some, Ok, OnOk, OnErr, IfOk, IfErr, IsErrOf, IfSome, drop, take};
+ghost use Rattle.std.specs.Io.KnownBytes.{Appends, Keeps};
+ghost use Rattle.fault_ports.specs.Causes.{Rose};
+ghost use Rattle.fault_ports.specs.Output.{AppendsPrefix, Puts};
+ghost use Rattle.swmm_top.specs.Answers.{HasGiven, HasReported, HasCauses, ReadsToEnd};
+ghost use Rattle.swmm_top.specs.CommandWords.{command_of, run_only, check_only};
+ghost use Rattle.swmm_top.specs.Input.{TakesFront, input_limit};
+ghost use Rattle.swmm_top.specs.Outcome.{Gives, input_outcome};
+
+use crate::command::{Command, read_words};
+use crate::fault::{Port, TopFault};
+use crate::input::{ReadFault, read_front};
+use crate::report::report_input;
+use crate::status::Status;
+use fault_ports::{Gate, Sink, Source};
+use net_types::{List, Text};
+use std::alloc::Global;
+use std::sync::Wait;
+use std::thread::Threads;
+
+/// The most bytes that an input may have.
+pub const INPUT_LIMIT: usize = 33_554_432;
+
+/// Makes the run of a `run` command with one worker, and always returns. Other words are `Usage`.
+pub fn run_alone_top<S: Source, H: Source, W: Sink, K: Sink>(
+    alloc: Global,
+    words: &List<Text>,
+    inp: &mut S,
+    hot_in: &mut H,
+    rpt: &mut W,
+    hot_out: &mut K,
+) -> Result<Status, TopFault>
+    // What it gives: the headline.
+    ensures outcome { Gives (run_only (command_of words.now)) (S.left inp.old) (H.left hot_in.old) (λ given. HasGiven given (W.held rpt.old) (W.held rpt.new) (K.held hot_out.old) (K.held hot_out.new) result) }
+    ensures no_command { (result ≡ Ok Status.Usage) ↔ (run_only (command_of words.now) ≡ None) }
+
+    // A fault has its cause in the port's count.
+    ensures causes { HasCauses (S.faults inp.old) (S.faults inp.new) (H.faults hot_in.old) (H.faults hot_in.new) (W.faults rpt.old) (W.faults rpt.new) (K.faults hot_out.old) (K.faults hot_out.new) result }
+
+    // What was read, and what a fault leaves.
+    ensures read_to_end { ReadsToEnd (run_only (command_of words.now)) (S.left inp.old) (S.left inp.new) result }
+    ensures unwritten { (port : Port) → IsErrOf result (TopFault.Read port) → (rpt.new ≡ rpt.old) × (hot_out.new ≡ hot_out.old) }
+
+    // Ports that aren't used.
+    ensures unused { (hot_in.new ≡ hot_in.old) × (hot_out.new ≡ hot_out.old) }
+    ensures unused_by_usage { run_only (command_of words.now) ≡ None → (inp.new ≡ inp.old) × (rpt.new ≡ rpt.old) }
+{
+    match read_words(words) {
+        Some(Command::Run { .. }) => run_input(alloc, inp, rpt),
+        Some(Command::Check { .. }) => Ok(Status::Usage),
+        None => Ok(Status::Usage),
+    }
+}
+
+/// Checks the input of a `check` command, and always returns. Other words are `Usage`.
+pub fn check_top<S: Source, W: Sink>(
+    alloc: Global,
+    words: &List<Text>,
+    inp: &mut S,
+    rpt: &mut W,
+) -> Result<Status, TopFault>
+    // What it gives: the headline. There is no hotstart to read or to write.
+    ensures outcome { Gives (check_only (command_of words.now)) (S.left inp.old) None (λ given. HasGiven given (W.held rpt.old) (W.held rpt.new) None None result) }
+    ensures no_command { (result ≡ Ok Status.Usage) ↔ (check_only (command_of words.now) ≡ None) }
+
+    // A fault has its cause in the port's count.
+    ensures causes { HasCauses (S.faults inp.old) (S.faults inp.new) 0 0 (W.faults rpt.old) (W.faults rpt.new) 0 0 result }
+
+    // What was read, and what a fault leaves.
+    ensures read_to_end { ReadsToEnd (check_only (command_of words.now)) (S.left inp.old) (S.left inp.new) result }
+    ensures unwritten { (port : Port) → IsErrOf result (TopFault.Read port) → rpt.new ≡ rpt.old }
+
+    // Ports that aren't used.
+    ensures unused_by_usage { check_only (command_of words.now) ≡ None → (inp.new ≡ inp.old) × (rpt.new ≡ rpt.old) }
+{
+    match read_words(words) {
+        Some(Command::Check { .. }) => run_input(alloc, inp, rpt),
+        Some(Command::Run { .. }) => Ok(Status::Usage),
+        None => Ok(Status::Usage),
+    }
+}
+
+/// Does a command. It may wait for its workers, so it promises its return for no command.
+pub fn swmm_top<R: Threads + Wait + Sync, S: Source, H: Source, W: Sink, K: Sink, G: Gate + Sync>(
+    _rt: &R,
+    alloc: Global,
+    words: &List<Text>,
+    inp: &mut S,
+    hot_in: &mut H,
+    rpt: &mut W,
+    hot_out: &mut K,
+    _gate: &G,
+) -> Result<Status, TopFault>
+    // What it gives: the headline.
+    ensures outcome { Gives (command_of words.now) (S.left inp.old) (H.left hot_in.old) (λ given. HasGiven given (W.held rpt.old) (W.held rpt.new) (K.held hot_out.old) (K.held hot_out.new) result) }
+    ensures no_command { (result ≡ Ok Status.Usage) ↔ (command_of words.now ≡ None) }
+
+    // A fault has its cause in the port's count.
+    ensures causes { HasCauses (S.faults inp.old) (S.faults inp.new) (H.faults hot_in.old) (H.faults hot_in.new) (W.faults rpt.old) (W.faults rpt.new) (K.faults hot_out.old) (K.faults hot_out.new) result }
+
+    // What was read, and what a fault leaves.
+    ensures read_to_end { ReadsToEnd (command_of words.now) (S.left inp.old) (S.left inp.new) result }
+    ensures unwritten { (port : Port) → IsErrOf result (TopFault.Read port) → (rpt.new ≡ rpt.old) × (hot_out.new ≡ hot_out.old) }
+
+    // Ports that aren't used.
+    ensures unused { (hot_in.new ≡ hot_in.old) × (hot_out.new ≡ hot_out.old) }
+    ensures unused_by_usage { command_of words.now ≡ None → (inp.new ≡ inp.old) × (rpt.new ≡ rpt.old) }
+{
+    match read_words(words) {
+        Some(Command::Check { .. }) => check_top(alloc, words, inp, rpt),
+        Some(Command::Run { .. }) => run_alone_top(alloc, words, inp, hot_in, rpt, hot_out),
+        None => Ok(Status::Usage),
+    }
+}
+
+// Reads the input and reports it.
+fn run_input<S: Source, W: Sink>(
+    alloc: Global,
+    inp: &mut S,
+    rpt: &mut W,
+) -> Result<Status, TopFault>
+    ensures outcome { IfSome (S.left inp.old) (λ input. HasReported (input_outcome input) (W.held rpt.old) (W.held rpt.new) result) }
+    ensures no_usage { IfOk result (λ status. status ≡ Status.Usage → ⊥) }
+    ensures read_input { IsErrOf result (TopFault.Read Port.Inp) → Rose (S.faults inp.old) (S.faults inp.new) }
+    ensures write_report { IsErrOf result (TopFault.Write Port.Rpt) → Rose (W.faults rpt.old) (W.faults rpt.new) }
+    ensures faults { OnErr result (IsErrOf result TopFault.OutOfMemory ⊎ (IsErrOf result (TopFault.Read Port.Inp) ⊎ IsErrOf result (TopFault.Write Port.Rpt))) }
+    ensures read_to_end { OnOk result (IfSome (S.left inp.old) (λ input. S.left inp.new ≡ Some (drop (input_limit + 1) input))) }
+    ensures unwritten { IsErrOf result (TopFault.Read Port.Inp) → rpt.new ≡ rpt.old }
+{
+    match read_input(alloc, inp) {
+        Ok(bytes) => report_input(alloc, &bytes, rpt),
+        Err(fault) => Err(fault),
+    }
+}
+
+// Reads the input to its end, or one byte past the limit.
+fn read_input<S: Source>(alloc: Global, inp: &mut S) -> Result<Vec<u8>, TopFault>
+    ensures bytes { IfOk result (λ bytes. TakesFront (input_limit + 1) (S.left inp.old) (S.left inp.new) bytes.items) }
+    ensures cause { IsErrOf result (TopFault.Read Port.Inp) → Rose (S.faults inp.old) (S.faults inp.new) }
+    ensures faults { OnErr result (IsErrOf result TopFault.OutOfMemory ⊎ IsErrOf result (TopFault.Read Port.Inp)) }
+{
+    match read_front(alloc, inp, INPUT_LIMIT + 1) {
+        Ok(bytes) => Ok(bytes),
+        Err(ReadFault::Failed) => Err(TopFault::Read(Port::Inp)),
+        Err(ReadFault::OutOfMemory) => Err(TopFault::OutOfMemory),
+    }
+}
