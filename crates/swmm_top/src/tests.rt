@@ -1,4 +1,6 @@
 // What no clause says: that the calls succeed with ample memory, the printed texts, and whole runs over memory.
+ghost use Rattle.std.specs.Prelude.{◌≤◌};
+
 use crate::{INPUT_LIMIT, Port, Status, TopFault, check_top, file_names, run_alone_top, swmm_top};
 use fault_ports::{MemSink, MemSource, OpenGate};
 use net_types::{List, OutOfMemory, Text};
@@ -6,9 +8,11 @@ use std::alloc::Global;
 use std::test::Fail;
 
 const EMPTY_REPORT: &[u8] = b"SWMM5-FX REPORT\n\nInput Faults\nERROR 145: no outfall\n";
+
 const OTHER_REPORT: &[u8] = b"SWMM5-FX REPORT\n\nInput Faults\nERROR 401: not in this profile\n";
 
 // What a run of an input over memory answers, and its report.
+#[derive(Drop)]
 struct Ran {
     answer: Result<Status, TopFault>,
     report: MemSink,
@@ -30,14 +34,134 @@ fn words(alloc: Global, mode: &[u8]) -> Result<List<Text>, OutOfMemory> {
     Ok(words)
 }
 
-fn ran(alloc: Global, input: &[u8], most: usize, read_fails: &[u64], put_fails: &[u64]) -> Result<Ran, OutOfMemory>
+fn run_over(
+    alloc: Global,
+    input: &[u8],
+    most: usize,
+    read_fails: &[u64],
+    put_fails: &[u64],
+) -> Result<Ran, OutOfMemory>
     requires { 1 ≤ most }
 {
     let words = words(alloc, b"run")?;
-    let mut inp = MemSource::new(Text::from_slice(alloc, input)?, list(alloc, read_fails)?, most);
+    let mut inp = MemSource::new(
+        Text::from_slice(alloc, input)?,
+        list(alloc, read_fails)?,
+        most,
+    );
     let mut hot_in = MemSource::new(Text::from_slice(alloc, b"")?, List::new(alloc), 1);
     let mut report = MemSink::new(alloc, 4096, list(alloc, put_fails)?, 16)?;
     let mut hot_out = MemSink::new(alloc, 0, List::new(alloc), 1)?;
-    let answer = run_alone_top(alloc, &words, &mut inp, &mut hot_in, &mut report, &mut hot_out);
+    let answer = run_alone_top(
+        alloc,
+        &words,
+        &mut inp,
+        &mut hot_in,
+        &mut report,
+        &mut hot_out,
+    );
     Ok(Ran { answer, report })
+}
+
+#[test]
+fn refuses_an_empty_input(rt: HostRuntime) -> Result<(), Fail> {
+    let ran = run_over(rt.alloc(), b"", 64, &[], &[])?;
+    assert_eq!(rt; ran.answer, Ok(Status::Refused));
+    assert_eq!(rt; ran.report.held(), EMPTY_REPORT);
+    Ok(())
+}
+
+#[test]
+fn reads_an_input_in_pieces(rt: HostRuntime) -> Result<(), Fail> {
+    for most in [1, 64] {
+        let ran = run_over(rt.alloc(), b"[TITLE]\none reach\n", most, &[], &[])?;
+        assert_eq!(rt; ran.answer, Ok(Status::Refused));
+        assert_eq!(rt; ran.report.held(), OTHER_REPORT);
+    }
+    Ok(())
+}
+
+#[test]
+fn keeps_what_was_put_before_a_fault(rt: HostRuntime) -> Result<(), Fail> {
+    let ran = run_over(rt.alloc(), b"", 64, &[], &[3])?;
+    assert_eq!(rt; ran.answer, Err(TopFault::Write(Port::Rpt)));
+    assert_eq!(rt; ran.report.held(), &EMPTY_REPORT[..30]);
+    Ok(())
+}
+
+#[test]
+fn writes_nothing_after_a_read_fault(rt: HostRuntime) -> Result<(), Fail> {
+    let ran = run_over(rt.alloc(), b"[TITLE]", 2, &[3], &[])?;
+    assert_eq!(rt; ran.answer, Err(TopFault::Read(Port::Inp)));
+    assert!(rt; ran.report.held().is_empty());
+    Ok(())
+}
+
+#[test]
+fn refuses_one_byte_past_the_limit(rt: HostRuntime) -> Result<(), Fail> {
+    let alloc = rt.alloc();
+    let input = vec![in alloc; b'\n'; INPUT_LIMIT + 1]?;
+    let full = run_over(alloc, &input[..INPUT_LIMIT], 4096, &[], &[])?;
+    assert_eq!(rt; full.answer, Ok(Status::Refused));
+    assert_eq!(rt; full.report.held(), OTHER_REPORT);
+    let over = run_over(alloc, &input, 4096, &[], &[])?;
+    assert_eq!(rt; over.answer, Ok(Status::Refused));
+    assert_eq!(rt;
+        over.report.held(),
+        b"SWMM5-FX REPORT\n\nInput Faults\nERROR 402 input longer than 33554432 bytes\n".as_slice()
+    );
+    Ok(())
+}
+
+#[test]
+fn hands_on_each_command(rt: HostRuntime) -> Result<(), Fail> {
+    let alloc = rt.alloc();
+    for mode in [b"run".as_slice(), b"check".as_slice()] {
+        let words = words(alloc, mode)?;
+        let mut inp = MemSource::new(Text::from_slice(alloc, b"")?, List::new(alloc), 64);
+        let mut hot_in = MemSource::new(Text::from_slice(alloc, b"")?, List::new(alloc), 1);
+        let mut report = MemSink::new(alloc, 4096, List::new(alloc), 4096)?;
+        let mut hot_out = MemSink::new(alloc, 0, List::new(alloc), 1)?;
+        let answer = swmm_top(
+            &rt,
+            alloc,
+            &words,
+            &mut inp,
+            &mut hot_in,
+            &mut report,
+            &mut hot_out,
+            &OpenGate,
+        );
+        assert_eq!(rt; answer, Ok(Status::Refused));
+        assert_eq!(rt; report.held(), EMPTY_REPORT);
+    }
+    let words = words(alloc, b"check")?;
+    let mut inp = MemSource::new(Text::from_slice(alloc, b"")?, List::new(alloc), 64);
+    let mut report = MemSink::new(alloc, 4096, List::new(alloc), 4096)?;
+    assert_eq!(rt;
+        check_top(alloc, &words, &mut inp, &mut report),
+        Ok(Status::Refused)
+    );
+    Ok(())
+}
+
+#[test]
+fn names_the_files_of_a_command(rt: HostRuntime) -> Result<(), Fail> {
+    let alloc = rt.alloc();
+    let Some(names) = file_names(alloc, &words(alloc, b"run")?)? else {
+        return Err("no names".into());
+    };
+    assert_eq!(rt; names.rpt.as_slice(), b"a.rpt".as_slice());
+    assert!(rt; file_names(alloc, &words(alloc, b"demo")?)?.is_none());
+    let text = format!(in alloc;
+        "{}; {}; {}",
+        TopFault::Read(Port::Inp),
+        TopFault::Write(Port::Rpt),
+        TopFault::OutOfMemory
+    )?;
+    assert_eq!(rt;
+        text.as_str(),
+        "read fault: inp; write fault: rpt; out of memory"
+    );
+    Ok(())
 }
