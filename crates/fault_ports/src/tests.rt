@@ -37,33 +37,53 @@ fn a_fault_leaves_a_front_of_the_piece(rt: HostRuntime) -> Result<(), Fail> {
     Ok(())
 }
 
-#[test]
-fn a_file_gives_back_what_was_put(rt: HostRuntime) -> Result<(), Fail> {
-    let alloc = rt.alloc();
-    let folder = env::temp_dir(&rt)?;
+// The name of a file of a test.
+fn file_of(rt: &HostRuntime, tag: &str) -> Result<String, Fail> {
+    let folder = env::temp_dir(rt)?;
     let number = process::id(rt.process());
-    let path = format!(in alloc; "{}/fault_ports_{number}.txt", folder.display())?;
-    let name = path.as_bytes();
+    Ok(format!(in rt.alloc(); "{}/fault_ports_{tag}_{number}.txt", folder.display())?)
+}
 
-    let mut early = FileSource::new(&rt, Text::from_slice(alloc, name)?);
+fn source_of<'a>(rt: &'a HostRuntime, file: &str) -> Result<FileSource<'a, HostRuntime>, Fail> {
+    Ok(FileSource::new(rt, Text::from_slice(rt.alloc(), file.as_bytes())?))
+}
+
+fn sink_of<'a>(rt: &'a HostRuntime, file: &str) -> Result<FileSink<'a, HostRuntime>, Fail> {
+    Ok(FileSink::new(rt, Text::from_slice(rt.alloc(), file.as_bytes())?))
+}
+
+#[test]
+fn a_file_source_gives_the_bytes_of_a_file(rt: HostRuntime) -> Result<(), Fail> {
+    let file = file_of(&rt, "source")?;
+    fs::write(&rt, file.as_str(), "two words")?;
+    let mut source = source_of(&rt, file.as_str())?;
     let mut buf = [0u8; 6];
-    assert!(rt; early.take(&mut buf).is_err());
-
-    fs::write(&rt, path.as_str(), "an older and longer content")?;
-    let mut sink = FileSink::new(&rt, Text::from_slice(alloc, name)?);
-    assert!(rt; put_all(&mut sink, b"two ").is_ok());
-    assert!(rt; put_all(&mut sink, b"words").is_ok());
-
-    let mut source = FileSource::new(&rt, Text::from_slice(alloc, name)?);
     assert_eq!(rt; source.take(&mut buf), Ok(6));
     assert_eq!(rt; buf.as_slice(), b"two wo".as_slice());
     assert_eq!(rt; source.take(&mut buf), Ok(3));
-    assert_eq!(rt; &buf[..3], b"rds".as_slice());
     assert_eq!(rt; source.take(&mut buf), Ok(0));
-    fs::remove_file(&rt, path.as_str())?;
+    fs::remove_file(&rt, file.as_str())?;
+    Ok(())
+}
 
-    let nowhere = format!(in alloc; "{}/file", path.as_str())?;
-    let mut lost = FileSink::new(&rt, Text::from_slice(alloc, nowhere.as_bytes())?);
-    assert!(rt; put_all(&mut lost, b"words").is_err());
+#[test]
+fn a_file_sink_makes_its_file_anew(rt: HostRuntime) -> Result<(), Fail> {
+    let file = file_of(&rt, "sink")?;
+    fs::write(&rt, file.as_str(), "an older and longer content")?;
+    let mut sink = sink_of(&rt, file.as_str())?;
+    assert!(rt; put_all(&mut sink, b"two ").is_ok());
+    assert!(rt; put_all(&mut sink, b"words").is_ok());
+    let text = fs::read_to_string(&rt, file.as_str())?;
+    assert_eq!(rt; text.as_str(), "two words");
+    fs::remove_file(&rt, file.as_str())?;
+    Ok(())
+}
+
+#[test]
+fn a_file_that_cannot_be_opened_is_a_fault(rt: HostRuntime) -> Result<(), Fail> {
+    let file = file_of(&rt, "none/none")?;
+    let mut buf = [0u8; 6];
+    assert!(rt; source_of(&rt, file.as_str())?.take(&mut buf).is_err());
+    assert!(rt; sink_of(&rt, file.as_str())?.put(b"words").is_err());
     Ok(())
 }
