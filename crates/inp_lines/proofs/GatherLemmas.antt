@@ -1,4 +1,4 @@
-use Rattle.std.proofs.Common.{◌≡◌, ◌∷◌, ◌++◌, [], ◌≤◌, ◌<◌, length, ℕ, ◌+◌, zero, suc, List, Option, take, drop, get_or, refl, ap, sym, ◌∙◌, arith, append_assoc, append-nil, take-append-drop}
+use Rattle.std.proofs.Common.{◌≡◌, ◌∷◌, ◌++◌, [], ◌≤◌, ◌<◌, length, ℕ, ◌+◌, List, take, drop, get_or, refl, ap, sym, ◌∙◌, append_assoc, append-nil, take-append-drop}
 use Rattle.std.proofs.lemmas.List.{take_all, take_more, drop_more}
 use Rattle.net_types.specs.declared.faults.LineFault.{LineFault}
 use Rattle.inp_lines.specs.declared.line.Line.{Line}
@@ -12,9 +12,9 @@ use Rattle.inp_lines.proofs.CutLemmas.{cut_cut}
 pub gather_append : {A : Type 0} (f : List Line → Line → List A) (before xs ys : List Line) → gather f before (xs ++ ys) ≡ gather f before xs ++ gather f (before ++ xs) ys
 gather_append f before [] ys = ap (λ b. gather f b ys) (sym (append-nil before))
 gather_append f before (x ∷ xs) ys =
-  ap (λ l. f before x ++ l) (gather_append f (before ++ x ∷ []) xs ys)
-  ∙ (ap (λ b. f before x ++ (gather f (before ++ x ∷ []) xs ++ gather f b ys)) (append_assoc before (x ∷ []) xs)
-  ∙ sym (append_assoc (f before x) (gather f (before ++ x ∷ []) xs) (gather f (before ++ x ∷ xs) ys)))
+    ap (λ l. f before x ++ l) (gather_append f (before ++ x ∷ []) xs ys)
+    ∙ (ap (λ b. f before x ++ (gather f (before ++ x ∷ []) xs ++ gather f b ys)) (append_assoc before (x ∷ []) xs)
+    ∙ sym (append_assoc (f before x) (gather f (before ++ x ∷ []) xs) (gather f (before ++ x ∷ xs) ys)))
 
 -- one line more
 pub gather_push : {A : Type 0} (f : List Line → Line → List A) (lines : List Line) (line : Line) → gather f [] (lines ++ line ∷ []) ≡ gather f [] lines ++ f lines line
@@ -32,13 +32,13 @@ gather_next f lines i line h e = ap (λ l. gather f [] l) (line_push lines i lin
 -- the steps of a loop over lines: what was gathered so far, with what the next line gives
 pub gather_kept : {A : Type 0} (f : List Line → Line → List A) (lines : List Line) (i : ℕ) (line : Line) (start held more given : List A) → i < length lines → line ≡ get_or lines i line → given ≡ f (take i lines) line → held ≡ start ++ gather f [] (take i lines) → more ≡ held ++ given → more ≡ start ++ gather f [] (take (i + 1) lines)
 gather_kept f lines i line start held more given h e g inv step =
-  step ∙ (ap (λ l. l ++ given) inv ∙ (append_assoc start (gather f [] (take i lines)) given
-  ∙ ap (λ l. start ++ l) (ap (λ l. gather f [] (take i lines) ++ l) g ∙ sym (gather_next f lines i line h e))))
+    step ∙ (ap (λ l. l ++ given) inv ∙ (append_assoc start (gather f [] (take i lines)) given
+    ∙ ap (λ l. start ++ l) (ap (λ l. gather f [] (take i lines) ++ l) g ∙ sym (gather_next f lines i line h e))))
 
 pub gather_cut : {A : Type 0} (f : List Line → Line → List A) (lines : List Line) (i : ℕ) (line : Line) (start held more given : List A) → i < length lines → line ≡ get_or lines i line → given ≡ f (take i lines) line → held ≡ cut (start ++ gather f [] (take i lines)) → more ≡ cut (held ++ given) → more ≡ cut (start ++ gather f [] (take (i + 1) lines))
 gather_cut f lines i line start held more given h e g inv step =
-  step ∙ (ap (λ l. cut (l ++ given)) inv ∙ (cut_cut 100 (start ++ gather f [] (take i lines)) given
-  ∙ ap cut (gather_kept f lines i line start (start ++ gather f [] (take i lines)) ((start ++ gather f [] (take i lines)) ++ given) given h e g refl refl)))
+    step ∙ (ap (λ l. cut (l ++ given)) inv ∙ (cut_cut 100 (start ++ gather f [] (take i lines)) given
+    ∙ ap cut (gather_kept f lines i line start (start ++ gather f [] (take i lines)) ((start ++ gather f [] (take i lines)) ++ given) given h e g refl refl)))
 
 -- the end of such a loop
 pub gather_all : {A : Type 0} (f : List Line → Line → List A) (lines : List Line) (i : ℕ) → length lines ≤ i → gather f [] (take i lines) ≡ gather f [] lines

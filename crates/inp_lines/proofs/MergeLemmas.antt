@@ -1,6 +1,5 @@
-use Rattle.std.proofs.Common.{◌≡◌, ◌∷◌, ◌++◌, [], ◌≤◌, ◌<◌, length, ℕ, ◌+◌, zero, suc, List, Bool, true, false, cond, take, refl, ap, sym, ◌∙◌, arith, ◌||◌, nat_le, append_assoc, subst, append-nil}
+use Rattle.std.proofs.Common.{◌≡◌, ◌∷◌, ◌++◌, [], ◌≤◌, ◌<◌, ℕ, zero, suc, List, Bool, true, false, cond, take, refl, ap, sym, ◌∙◌, arith, ◌||◌, nat_le, subst, append-nil}
 use Rattle.std.specs.Bool.{⊤}
-
 use Rattle.std.proofs.lemmas.Bool.Decides.{nat_tests}
 use Rattle.std.proofs.lemmas.List.{take-take}
 use Rattle.net_types.specs.declared.faults.LineFault.{LineFault}
@@ -29,7 +28,7 @@ later_one n m (x ∷ y ∷ xs) h k = absurd k
 gather_later : (f : List Line → Line → List LineFault) (one : (before : List Line) (line : Line) → OneOn line.number (f before line)) (n m : ℕ) (before lines : List Line) → n ≤ m → Rise m lines → Later n (gather f before lines)
 gather_later f one n m before [] h rise = tt
 gather_later f one n m before (line ∷ lines) h rise =
-  later_append n (f before line) (gather f (before ++ line ∷ []) lines)
+    later_append n (f before line) (gather f (before ++ line ∷ []) lines)
     (later_one n line.number (f before line) (omega (arith, rise.0)) (one before line))
     (gather_later f one n line.number (before ++ line ∷ []) lines (omega (arith, rise.0)) rise.1)
 
@@ -59,10 +58,10 @@ merge_head n (x ∷ z ∷ a) b xs ys ha hb hc hx hy = absurd ha
 pub merged_gather : (f g : List Line → Line → List LineFault) → ((before : List Line) (line : Line) → OneOn line.number (f before line)) → ((before : List Line) (line : Line) → OneOn line.number (g before line)) → ((before : List Line) (line : Line) → OneOn line.number (f before line ++ g before line)) → (above : ℕ) (before lines : List Line) → Rise above lines → merged (gather f before lines) (gather g before lines) ≡ gather (both_of f g) before lines
 merged_gather f g one_f one_g one above before [] rise = refl
 merged_gather f g one_f one_g one above before (line ∷ lines) rise =
-  let more = before ++ line ∷ [] in
-  merge_head line.number (f before line) (g before line) (gather f more lines) (gather g more lines) (one_f before line) (one_g before line) (one before line)
+    let more = before ++ line ∷ [] in
+    merge_head line.number (f before line) (g before line) (gather f more lines) (gather g more lines) (one_f before line) (one_g before line) (one before line)
     (gather_later f one_f line.number line.number more lines (omega arith) rise.1) (gather_later g one_g line.number line.number more lines (omega arith) rise.1)
-  ∙ ap (λ l. (f before line ++ g before line) ++ l) (merged_gather f g one_f one_g one line.number more lines rise.1)
+    ∙ ap (λ l. (f before line ++ g before line) ++ l) (merged_gather f g one_f one_g one line.number more lines rise.1)
 
 -- cutting both lists before they are merged changes nothing of what is kept
 abbrev KeepsInsert : ℕ → Type 0
@@ -81,7 +80,7 @@ keeps_insert (suc n) a zero x xs ys h k = absurd (omega (arith, k))
 keeps_insert (suc n) a (suc b) x xs [] h k = ap (λ l. x ∷ l) (keeps_merge n (keeps_insert n) a (suc b) xs [] (omega (arith, h)) (omega (arith, k)))
 keeps_insert (suc n) a (suc b) x xs (y ∷ ys) h k = step (nat_le x.line y.line) (keeps_merge n (keeps_insert n) a (suc b) xs (y ∷ ys) (omega (arith, h)) (omega (arith, k))) (keeps_insert n a b x xs ys (omega (arith, h)) (omega (arith, k))) where
   step : (t : Bool) → take n (merged (take a xs) (y ∷ take b ys)) ≡ take n (merged xs (y ∷ ys)) → take n (insert_among x (merged (take a xs)) (take b ys)) ≡ take n (insert_among x (merged xs) ys)
-    → take (suc n) (cond t (x ∷ merged (take a xs) (y ∷ take b ys)) (y ∷ insert_among x (merged (take a xs)) (take b ys))) ≡ take (suc n) (cond t (x ∷ merged xs (y ∷ ys)) (y ∷ insert_among x (merged xs) ys))
+      → take (suc n) (cond t (x ∷ merged (take a xs) (y ∷ take b ys)) (y ∷ insert_among x (merged (take a xs)) (take b ys))) ≡ take (suc n) (cond t (x ∷ merged xs (y ∷ ys)) (y ∷ insert_among x (merged xs) ys))
   step true e d = ap (λ l. x ∷ l) e
   step false e d = ap (λ l. y ∷ l) d
 
@@ -96,9 +95,10 @@ pub faults_in_both : (s t : SectionName → Bool) (f g : List Line → Line → 
 faults_in_both s t f g in_f in_g apart = record { one = λ before line. pick before line (s line.section) refl; elsewhere = λ before line e. none before line (s line.section) refl e } where
   pick : (before : List Line) (line : Line) (b : Bool) → s line.section ≡ b → OneOn line.number (f before line ++ g before line)
   pick before line true e = let P : List LineFault → Type 0 = λ l. OneOn line.number (f before line ++ l) in
-    subst P (sym (in_g.elsewhere before line (apart line.section e))) (let Q : List LineFault → Type 0 = λ l. OneOn line.number l in subst Q (sym (append-nil (f before line))) (in_f.one before line))
+      subst P (sym (in_g.elsewhere before line (apart line.section e))) (let Q : List LineFault → Type 0 = λ l. OneOn line.number l in subst Q (sym (append-nil (f before line))) (in_f.one before line))
   pick before line false e = let P : List LineFault → Type 0 = λ l. OneOn line.number (l ++ g before line) in
-    subst P (sym (in_f.elsewhere before line e)) (in_g.one before line)
+      subst P (sym (in_f.elsewhere before line e)) (in_g.one before line)
+
   none : (before : List Line) (line : Line) (b : Bool) → s line.section ≡ b → (s line.section || t line.section) ≡ false → f before line ++ g before line ≡ []
   none before line true d e = cc (ap (λ b. b || t line.section) d)
   none before line false d e = ap (λ l. l ++ g before line) (in_f.elsewhere before line d) ∙ in_g.elsewhere before line (ap (λ b. b || t line.section) (sym d) ∙ e)
@@ -106,5 +106,5 @@ faults_in_both s t f g in_f in_g apart = record { one = λ before line. pick bef
 -- a list of faults so far, and the faults of other sections merged into it
 pub merged_sections : (s t : SectionName → Bool) (f g : List Line → Line → List LineFault) → FaultsIn s f → FaultsIn t g → ((name : SectionName) → s name ≡ true → t name ≡ false) → (above : ℕ) (lines : List Line) → Rise above lines → (old new : List LineFault) → old ≡ cut (gather f [] lines) → new ≡ cut (merged old (cut (gather g [] lines))) → new ≡ cut (gather (both_of f g) [] lines)
 merged_sections s t f g in_f in_g apart above lines rise old new was now =
-  now ∙ (ap (λ l. cut (merged l (cut (gather g [] lines)))) was ∙ (merged_cut (gather f [] lines) (gather g [] lines)
-  ∙ ap cut (merged_gather f g in_f.one in_g.one (faults_in_both s t f g in_f in_g apart).one above [] lines rise)))
+    now ∙ (ap (λ l. cut (merged l (cut (gather g [] lines)))) was ∙ (merged_cut (gather f [] lines) (gather g [] lines)
+    ∙ ap cut (merged_gather f g in_f.one in_g.one (faults_in_both s t f g in_f in_g apart).one above [] lines rise)))

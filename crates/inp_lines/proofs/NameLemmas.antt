@@ -1,11 +1,9 @@
-use Rattle.std.proofs.Common.{◌≡◌, ◌∷◌, ◌++◌, [], ◌≤◌, ◌<◌, length, ℕ, ◌+◌, ◌-◌, zero, suc, List, Bool, true, false, cond, Option, Some, None, refl, ap, sym, ◌∙◌, arith, subst, ◌||◌, nat_le, nat_lt, bytes_eq, append_assoc, length-append, append-nil, is_some, option_to_list, take, drop, get_or, take-append-drop}
+use Rattle.std.proofs.Common.{◌≡◌, ◌∷◌, ◌++◌, [], ◌≤◌, ◌<◌, length, ℕ, ◌+◌, List, Bool, true, false, cond, Option, Some, None, refl, ap, sym, ◌∙◌, arith, subst, ◌||◌, nat_le, nat_lt, bytes_eq, append_assoc, length-append, append-nil, is_some, option_to_list, take, drop, get_or, take-append-drop}
 use Rattle.std.proofs.lemmas.List.{take_more}
 use Rattle.std.specs.List.{list_any, position_from}
 use Rattle.std.specs.Map.{update}
-use Rattle.std.specs.Bool.{Decides}
 use Rattle.std.proofs.lemmas.Slice.Eq.{bytes_eq-Decides}
 use Rattle.std.proofs.lemmas.Bool.Decides.{nat_tests}
-use Rattle.std.proofs.lemmas.Bool.{cases_Bool}
 use Rattle.inp_lines.specs.declared.line.Line.{Line}
 use Rattle.inp_lines.specs.declared.names.Naming.{Naming}
 use Rattle.inp_lines.specs.declared.names.Naming.TheVariants.{First, OverLimit}
@@ -71,14 +69,17 @@ pub number_added : (held : List (List ℕ)) (name : List ℕ) (old new : List �
 number_added held name old new count same h fresh more = λ i q. at q i where
   absent : position_from (bytes_eq name) 0 held ≡ None
   absent = none_from _ (ap (λ f. is_some (f name)) (sym same) ∙ fresh)
+
   found : (q : List ℕ) → (o : Option ℕ) → position_from (bytes_eq q) 0 held ≡ o → bytes_eq q name ≡ false → o ≡ position_from (bytes_eq q) 0 (held ++ name ∷ [])
   found q None e apart = sym (placed_none (bytes_eq q) 0 count held name (omega arith) e ∙ ap (λ b. cond b (Some count) None) apart)
   found q (Some k) e apart = sym (placed_some (bytes_eq q) 0 k held (name ∷ []) e)
+
   pick : (q : List ℕ) (b : Bool) → bytes_eq name q ≡ b → cond b (Some count) (old q) ≡ position_from (bytes_eq q) 0 (held ++ name ∷ [])
   pick q true e = let eq : name ≡ q = (bytes_eq-Decides name q).0 e in
-    let P : List ℕ → Type 0 = λ w. Some count ≡ position_from (bytes_eq w) 0 (held ++ name ∷ []) in
-    subst P eq (sym (placed_none (bytes_eq name) 0 count held name (omega arith) absent ∙ ap (λ b. cond b (Some count) None) ((bytes_eq-Decides name name).1 refl)))
+      let P : List ℕ → Type 0 = λ w. Some count ≡ position_from (bytes_eq w) 0 (held ++ name ∷ []) in
+      subst P eq (sym (placed_none (bytes_eq name) 0 count held name (omega arith) absent ∙ ap (λ b. cond b (Some count) None) ((bytes_eq-Decides name name).1 refl)))
   pick q false e = ap (λ f. f q) same ∙ found q (position_from (bytes_eq q) 0 held) refl (apart_back name q e)
+
   at : (q : List ℕ) → new q ≡ position_from (bytes_eq q) 0 (held ++ name ∷ [])
   at q = more q ∙ pick q (bytes_eq name q) refl
 
@@ -100,15 +101,15 @@ first_new held name e h = grind (arith, nat_tests)
 
 pub numbers_known : (held : List (List ℕ)) (name : List ℕ) (old : List ℕ → Option ℕ) (count : ℕ) → is_some (old name) ≡ true → old ≡ number_in held → length held ≡ count → (old ≡ number_in (with_first held name)) × (length (with_first held name) ≡ count)
 numbers_known held name old count e same h = let k = first_known held name (unknown held name old true same e) in
-  (same ∙ ap number_in (sym k), ap length k ∙ h)
+    (same ∙ ap number_in (sym k), ap length k ∙ h)
 
 pub numbers_full : (held : List (List ℕ)) (name : List ℕ) (old : List ℕ → Option ℕ) (count : ℕ) → 20000 ≤ count → old ≡ number_in held → length held ≡ count → (old ≡ number_in (with_first held name)) × (length (with_first held name) ≡ count)
 numbers_full held name old count full same h = let k = first_full held name (omega arith) in
-  (same ∙ ap number_in (sym k), ap length k ∙ h)
+    (same ∙ ap number_in (sym k), ap length k ∙ h)
 
 pub numbers_more : (held : List (List ℕ)) (name : List ℕ) (old new : List ℕ → Option ℕ) (count : ℕ) → is_some (old name) ≡ false → count < 20000 → ((q : List ℕ) → new q ≡ update bytes_eq old name (Some count) q) → old ≡ number_in held → length held ≡ count → (new ≡ number_in (with_first held name)) × (length (with_first held name) ≡ count + 1)
 numbers_more held name old new count fresh room more same h = let k = first_new held name (unknown held name old false same fresh) (omega arith) in
-  (number_added held name old new count same h fresh more ∙ ap number_in (sym k), ap length k ∙ omega (arith, length-append held (name ∷ [])))
+    (number_added held name old new count same h fresh more ∙ ap number_in (sym k), ap length k ∙ omega (arith, length-append held (name ∷ [])))
 
 -- the names that more lines define
 pub firsts_append : (held xs ys : List (List ℕ)) → firsts_after held (xs ++ ys) ≡ firsts_after (firsts_after held xs) ys
@@ -143,13 +144,13 @@ pub firsts_grow : (held xs : List (List ℕ)) → (more : List (List ℕ)) × (f
 unfolding firsts_after with_first
 firsts_grow held [] = ([], sym (append-nil held))
 firsts_grow held (x ∷ xs) = let a = first_grows held x (is_repeat held x || nat_le record_limit (length held)) in
-  let b = firsts_grow (with_first held x) xs in
-  (a.0 ++ b.0, b.1 ∙ (ap (λ l. l ++ b.0) a.1 ∙ append_assoc held a.0 b.0))
+    let b = firsts_grow (with_first held x) xs in
+    (a.0 ++ b.0, b.1 ∙ (ap (λ l. l ++ b.0) a.1 ∙ append_assoc held a.0 b.0))
 
 -- the names of the first lines come first
 pub defined_split : (name_of : Line → Option (List ℕ)) (before rest : List Line) → (more : List (List ℕ)) × (defined name_of (before ++ rest) ≡ defined name_of before ++ more)
 defined_split name_of before rest = let a = firsts_grow (defined name_of before) (names_of name_of rest) in
-  (a.0, defined_append name_of before rest ∙ a.1)
+    (a.0, defined_append name_of before rest ∙ a.1)
 
 -- the count of names after a line
 pub count_is : (held : List (List ℕ)) (name : Option (List ℕ)) (count : ℕ) → length held ≡ count → length (with_name held name) ≡ count_after name (naming_of held name) count
@@ -158,7 +159,8 @@ count_is held (Some name) count h = known (is_repeat held name) refl where
   full : (b : Bool) → nat_le record_limit (length held) ≡ b → is_repeat held name ≡ false → length (with_first held name) ≡ count_with (cond b OverLimit First) count
   full true k e = let limit : record_limit ≤ length held = grind (arith, nat_tests) in ap length (first_full held name limit) ∙ h
   full false k e = let room : length held < record_limit = grind (arith, nat_tests) in
-    ap length (first_new held name e room) ∙ (length-append held (name ∷ []) ∙ grind (arith, nat_tests))
+      ap length (first_new held name e room) ∙ (length-append held (name ∷ []) ∙ grind (arith, nat_tests))
+
   known : (b : Bool) → is_repeat held name ≡ b → length (with_first held name) ≡ count_with (naming_by b (length held)) count
   known true e = ap length (first_known held name e) ∙ h
   known false e = full (nat_le record_limit (length held)) refl e
@@ -170,7 +172,7 @@ defined_next name_of lines i line h e = ap (λ l. defined name_of l) (take_more 
 -- the names of all lines begin with those of the lines so far
 pub defined_front : (name_of : Line → Option (List ℕ)) (lines : List Line) (i : ℕ) → (more : List (List ℕ)) × (defined name_of lines ≡ defined name_of (take i lines) ++ more)
 defined_front name_of lines i = let a = defined_split name_of (take i lines) (drop i lines) in
-  (a.0, ap (λ l. defined name_of l) (sym (take-append-drop i lines)) ∙ a.1)
+    (a.0, ap (λ l. defined name_of l) (sym (take-append-drop i lines)) ∙ a.1)
 
 -- for a walk: the names of all lines begin with those of the lines before
 pub numbers_split : (name_of : Line → Option (List ℕ)) (numbers : List ℕ → Option ℕ) (before rest : List Line) → numbers ≡ number_in (defined name_of (before ++ rest)) → (more : List (List ℕ)) × (numbers ≡ number_in (defined name_of before ++ more))
@@ -187,7 +189,7 @@ number_kept held more name k h = placed_some (bytes_eq name) 0 k held more h
 -- the number of a name is a place among the names
 pub number_within : (held : List (List ℕ)) (name : List ℕ) (k : ℕ) → number_in held name ≡ Some k → k < length held
 number_within held name k h =
-  let found : is_repeat held name ≡ true = sym (placed_any (bytes_eq name) 0 held) ∙ ap is_some h in
-  let below : is_below (number_in (held ++ []) name) (length held) ≡ true = below_placed (bytes_eq name) 0 (length held) held [] (omega arith) ∙ found in
-  let test : nat_lt k (length held) ≡ true = ap (λ o. is_below o (length held)) (sym (number_kept held [] name k h)) ∙ below in
-  grind (arith, nat_tests)
+    let found : is_repeat held name ≡ true = sym (placed_any (bytes_eq name) 0 held) ∙ ap is_some h in
+    let below : is_below (number_in (held ++ []) name) (length held) ≡ true = below_placed (bytes_eq name) 0 (length held) held [] (omega arith) ∙ found in
+    let test : nat_lt k (length held) ≡ true = ap (λ o. is_below o (length held)) (sym (number_kept held [] name k h)) ∙ below in
+    grind (arith, nat_tests)

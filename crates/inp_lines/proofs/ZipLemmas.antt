@@ -1,6 +1,5 @@
 use Rattle.std.proofs.Common.{◌≡◌, ◌∷◌, ◌++◌, [], List, Bool, true, false, cond, Option, refl, ap, sym, ◌∙◌, filter, ℕ, subst}
 use Rattle.std.specs.List.{AllZip}
-use Rattle.net_types.specs.declared.faults.LineFault.{LineFault}
 use Rattle.inp_lines.specs.declared.line.Line.{Line}
 use Rattle.inp_lines.specs.declared.names.Naming.{Naming}
 use Rattle.inp_lines.specs.declared.reading.Reading.{Reading}
@@ -21,16 +20,18 @@ right_nil (x ∷ xs) ys h = cc
 pub zip_gathered : {R F : Type 0} (Is : Line → R → Type 0) (of_kind : Line → Bool) (records : List Line → Line → List R) (faults : List Line → Line → List F) → ((before : List Line) (line : Line) → faults before line ≡ [] → Gives Is of_kind line (records before line)) → (before lines : List Line) → gather faults before lines ≡ [] → AllZip Is (filter of_kind lines) (gather records before lines)
 zip_gathered Is of_kind records faults gives before [] none = tt
 zip_gathered {R} Is of_kind records faults gives before (line ∷ lines) none =
-  step (records before line) (gives before line (left_nil (faults before line) (gather faults (before ++ line ∷ []) lines) none))
+    step (records before line) (gives before line (left_nil (faults before line) (gather faults (before ++ line ∷ []) lines) none))
     (zip_gathered Is of_kind records faults gives (before ++ line ∷ []) lines (right_nil (faults before line) (gather faults (before ++ line ∷ []) lines) none)) where
-  rest : List R
-  rest = gather records (before ++ line ∷ []) lines
-  keep : (b : Bool) (xs : List R) → of_kind line ≡ b → AllZip Is (cond b (line ∷ filter of_kind lines) (filter of_kind lines)) xs → AllZip Is (cond (of_kind line) (line ∷ filter of_kind lines) (filter of_kind lines)) xs
-  keep b xs e h = let P : Bool → Type 0 = λ c. AllZip Is (cond c (line ∷ filter of_kind lines) (filter of_kind lines)) xs in subst P (sym e) h
-  step : (here : List R) → Gives Is of_kind line here → AllZip Is (filter of_kind lines) rest → AllZip Is (cond (of_kind line) (line ∷ filter of_kind lines) (filter of_kind lines)) (here ++ rest)
-  step [] g h = keep false rest g h
-  step (r ∷ []) g h = keep true (r ∷ rest) g.0 (g.1, h)
-  step (r ∷ s ∷ more) g h = absurd g
+      rest : List R
+      rest = gather records (before ++ line ∷ []) lines
+
+      keep : (b : Bool) (xs : List R) → of_kind line ≡ b → AllZip Is (cond b (line ∷ filter of_kind lines) (filter of_kind lines)) xs → AllZip Is (cond (of_kind line) (line ∷ filter of_kind lines) (filter of_kind lines)) xs
+      keep b xs e h = let P : Bool → Type 0 = λ c. AllZip Is (cond c (line ∷ filter of_kind lines) (filter of_kind lines)) xs in subst P (sym e) h
+
+      step : (here : List R) → Gives Is of_kind line here → AllZip Is (filter of_kind lines) rest → AllZip Is (cond (of_kind line) (line ∷ filter of_kind lines) (filter of_kind lines)) (here ++ rest)
+      step [] g h = keep false rest g h
+      step (r ∷ []) g h = keep true (r ∷ rest) g.0 (g.1, h)
+      step (r ∷ s ∷ more) g h = absurd g
 
 -- the same for a kind where each line gives one record
 pub zip_records : {R : Type 0} (Is : Line → R → Type 0) (of_kind : Line → Bool) (name_of : Line → Option (List ℕ)) (reading_of : Naming → Line → Reading R) → ((naming : Naming) (line : Line) → Fits Is of_kind line (reading_of naming line)) → (lines : List Line) → gather (fault_at name_of reading_of) [] lines ≡ [] → AllZip Is (filter of_kind lines) (gather (record_at name_of reading_of) [] lines)

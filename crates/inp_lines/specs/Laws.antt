@@ -26,6 +26,6 @@ Fits Is of_kind line (Faulty fault) = ⊤
 -- The faults so far and the faults of other sections merged into them. Source: this project's profile.
 abbrev pub MergesInLineOrder : Type 0
 MergesInLineOrder = (s t : SectionName → Bool) (f g : List Line → Line → List LineFault) → FaultsIn s f → FaultsIn t g
-  → ((name : SectionName) → s name ≡ true → t name ≡ false)
-  → (above : ℕ) (lines : List Line) → Rise above lines → (old new : List LineFault)
-  → old ≡ cut (gather f [] lines) → new ≡ cut (merged old (cut (gather g [] lines))) → new ≡ cut (gather (both_of f g) [] lines)
+    → ((name : SectionName) → s name ≡ true → t name ≡ false)
+    → (above : ℕ) (lines : List Line) → Rise above lines → (old new : List LineFault)
+    → old ≡ cut (gather f [] lines) → new ≡ cut (merged old (cut (gather g [] lines))) → new ≡ cut (gather (both_of f g) [] lines)

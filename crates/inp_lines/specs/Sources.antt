@@ -1,4 +1,4 @@
-use Rattle.std.specs.Prelude.{◌≡◌, ℕ, Bool, true, false, List, [], ◌∷◌, ◌++◌, ⊤}
+use Rattle.std.specs.Prelude.{◌≡◌, ℕ, Bool, false, List, [], ◌∷◌, ◌++◌, ⊤}
 use Rattle.net_types.specs.declared.faults.LineFault.{LineFault}
 use Rattle.inp_lines.specs.declared.line.Line.{Line}
 use Rattle.inp_lines.specs.declared.line.SectionName.{SectionName}

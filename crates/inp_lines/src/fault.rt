@@ -2,11 +2,9 @@
 ghost use Rattle.std.specs.Prelude.{◌≡◌, ◌∷◌, ◌++◌, [], OnOk, IfOk, ◌≤◌, length};
 ghost use Rattle.inp_lines.specs.Faults.{line_fault, cut, token_at};
 
-use std::alloc::Global;
-
-use net_types::{LineFault, List, OutOfMemory, Text};
-
 use crate::line::Line;
+use net_types::{LineFault, List, OutOfMemory, Text};
+use std::alloc::Global;
 
 /// A fault of a line while the line is at hand: the fault's number and the place of the token at fault, counted
 /// from 0. A place past the last token stands for the empty token.

@@ -8,14 +8,12 @@ ghost use Rattle.inp_lines.specs.Gather.{gather, record_at, fault_at, records_in
 ghost use Rattle.inp_lines.specs.Names.{number_in, defined, with_name, naming_of, count_with, count_after};
 ghost use Rattle.inp_lines.specs.Numbers.{numbers_of};
 
-use std::alloc::Global;
-
-use net_types::{LineFault, List, OutOfMemory};
-
 use crate::fault::{Fault, add_fault};
 use crate::line::Line;
-use crate::reading::Reading;
 use crate::names::{Names, Naming, add_first, naming_at, no_names};
+use crate::reading::Reading;
+use net_types::{LineFault, List, OutOfMemory};
+use std::alloc::Global;
 
 /// A kind of record, by the names that lines define.
 pub trait Kind<'a> {
@@ -33,12 +31,21 @@ pub trait RecordKind<'a>: Kind<'a> {
     ghost reading_of: { Self → NameStanding → DataLine → ReadingOf Self.Record };
 
     /// Reads a line, by how its name stands to the names that the lines before it define.
-    fn read(&self, alloc: Global, line: &'a Line, naming: Naming) -> Result<Reading<Self::Record>, OutOfMemory>
+    fn read(
+        &self,
+        alloc: Global,
+        line: &'a Line,
+        naming: Naming,
+    ) -> Result<Reading<Self::Record>, OutOfMemory>
         ensures { IfOk result (λ reading. reading ≡ reading_of self.now naming line.now) };
 }
 
 /// Numbers the names that lines define, from 0 in the order of their first lines.
-pub fn number_names<'a, K: Kind<'a>>(alloc: Global, kind: &K, lines: &'a List<Line>) -> Result<Names<'a>, OutOfMemory>
+pub fn number_names<'a, K: Kind<'a>>(
+    alloc: Global,
+    kind: &K,
+    lines: &'a List<Line>,
+) -> Result<Names<'a>, OutOfMemory>
     ensures { IfOk result (λ names. numbers_of names ≡ number_in (defined (K.name_of kind.now) lines.now)) }
 {
     let mut names = no_names(alloc);
@@ -50,7 +57,12 @@ pub fn number_names<'a, K: Kind<'a>>(alloc: Global, kind: &K, lines: &'a List<Li
 }
 
 /// Defines the name of a line, if it has one.
-fn add_name_of<'a, K: Kind<'a>>(kind: &K, line: &'a Line, names: &mut Names<'a>, count: u32) -> Result<u32, OutOfMemory>
+fn add_name_of<'a, K: Kind<'a>>(
+    kind: &K,
+    line: &'a Line,
+    names: &mut Names<'a>,
+    count: u32,
+) -> Result<u32, OutOfMemory>
     ensures { IfOk result (λ more. (held : Sequence (Sequence ℕ)) → numbers_of names.old ≡ number_in held → length held ≡ count → (numbers_of names.new ≡ number_in (with_name held (K.name_of kind.now line.now))) × (length (with_name held (K.name_of kind.now line.now)) ≡ more)) }
 {
     match kind.name(line) {
@@ -60,7 +72,14 @@ fn add_name_of<'a, K: Kind<'a>>(kind: &K, line: &'a Line, names: &mut Names<'a>,
 }
 
 /// Reads the lines of a kind: each gives a record or a fault, or is passed over.
-pub fn read_records<'a, K: RecordKind<'a>>(alloc: Global, kind: &K, names: &Names<'a>, lines: &'a List<Line>, records: &mut List<K::Record>, faults: &mut List<LineFault>) -> Result<(), OutOfMemory>
+pub fn read_records<'a, K: RecordKind<'a>>(
+    alloc: Global,
+    kind: &K,
+    names: &Names<'a>,
+    lines: &'a List<Line>,
+    records: &mut List<K::Record>,
+    faults: &mut List<LineFault>,
+) -> Result<(), OutOfMemory>
     requires names { numbers_of names.now ≡ number_in (defined (K.name_of kind.now) lines.now) }
     requires short { length faults.old ≤ 100 }
     ensures records { OnOk result (records.new ≡ records.old ++ gather (record_at (K.name_of kind.now) (K.reading_of kind.now)) [] lines.now) }
@@ -76,8 +95,29 @@ pub fn read_records<'a, K: RecordKind<'a>>(alloc: Global, kind: &K, names: &Name
     Ok(())
 }
 
+/// Reads a kind from all lines: appends its records, and gives its faults.
+pub fn read_kind<'a, K: RecordKind<'a>>(
+    alloc: Global,
+    kind: &K,
+    lines: &'a List<Line>,
+    records: &mut List<K::Record>,
+) -> Result<List<LineFault>, OutOfMemory>
+    ensures records { OnOk result (records.new ≡ records.old ++ gather (record_at (K.name_of kind.now) (K.reading_of kind.now)) [] lines.now) }
+    ensures faults { IfOk result (λ faults. faults ≡ cut (gather (fault_at (K.name_of kind.now) (K.reading_of kind.now)) [] lines.now)) }
+{
+    let names = number_names(alloc, kind, lines)?;
+    let mut found = List::new(alloc);
+    read_records(alloc, kind, &names, lines, records, &mut found)?;
+    Ok(found)
+}
+
 /// How the name of a line stands to the first `count` names.
-pub fn naming_of_line<'a, K: Kind<'a>>(kind: &K, names: &Names<'a>, line: &'a Line, count: u32) -> Naming
+pub fn naming_of_line<'a, K: Kind<'a>>(
+    kind: &K,
+    names: &Names<'a>,
+    line: &'a Line,
+    count: u32,
+) -> Naming
     ensures { (held more : Sequence (Sequence ℕ)) → numbers_of names.now ≡ number_in (held ++ more) → length held ≡ count → result ≡ naming_of held (K.name_of kind.now line.now) }
 {
     match kind.name(line) {
@@ -107,7 +147,14 @@ pub fn count_line<'a, K: Kind<'a>>(kind: &K, line: &'a Line, naming: Naming, cou
 }
 
 /// Reads one line of a kind.
-fn read_line<'a, K: RecordKind<'a>>(alloc: Global, kind: &K, line: &'a Line, naming: Naming, records: &mut List<K::Record>, faults: &mut List<LineFault>) -> Result<(), OutOfMemory>
+fn read_line<'a, K: RecordKind<'a>>(
+    alloc: Global,
+    kind: &K,
+    line: &'a Line,
+    naming: Naming,
+    records: &mut List<K::Record>,
+    faults: &mut List<LineFault>,
+) -> Result<(), OutOfMemory>
     requires short { length faults.old ≤ 100 }
     ensures records { OnOk result (records.new ≡ records.old ++ records_in (K.reading_of kind.now naming line.now)) }
     ensures faults { OnOk result (faults.new ≡ cut (faults.old ++ faults_in line.now (K.reading_of kind.now naming line.now))) }

@@ -7,15 +7,14 @@ ghost use Rattle.inp_lines.specs.Merge.{merged};
 ghost use Rattle.inp_lines.specs.Names.{number_in, defined};
 ghost use Rattle.inp_lines.specs.Numbers.{numbers_of};
 
+use crate::{
+    Fault, Kind, Line, Names, Naming, Reading, RecordKind, SectionName, copy_token, is_too_long,
+    merge_faults, name_with, needed, new_name, number_names, number_of, read_kind, split_lines,
+    too_few,
+};
+use net_types::{LineFault, List, OutOfMemory, Text};
 use std::alloc::Global;
 use std::test::Fail;
-
-use net_types::{LineFault, List, OutOfMemory, Text};
-
-use crate::{
-    Fault, Kind, Line, Names, Naming, Reading, RecordKind, SectionName, copy_token, is_too_long, merge_faults, name_with,
-    needed, new_name, number_names, number_of, read_records, split_lines, too_few,
-};
 
 // Nodes, by their names alone.
 #[derive(Clone, Copy, Debug)]
@@ -33,12 +32,12 @@ impl<'a> Kind<'a> for Nodes {
 }
 
 // Pipes, with the numbers of the nodes.
-#[derive(Drop)]
-struct Pipes<'a> {
-    nodes: Names<'a>,
+#[derive(Clone, Copy)]
+struct Pipes<'n, 'a> {
+    nodes: &'n Names<'a>,
 }
 
-impl<'a> Kind<'a> for Pipes<'a> {
+impl<'n, 'a> Kind<'a> for Pipes<'n, 'a> {
     ghost name_of = { λ _. pipe_name };
 
     fn name(&self, line: &'a Line) -> Option<&'a [u8]> {
@@ -49,10 +48,10 @@ impl<'a> Kind<'a> for Pipes<'a> {
     }
 }
 
-impl<'a> RecordKind<'a> for Pipes<'a> {
+impl<'n, 'a> RecordKind<'a> for Pipes<'n, 'a> {
     type Record = (Text, u32, u32);
 
-    ghost reading_of = { λ pipes. pipe_reading (numbers_of pipes.nodes) };
+    ghost reading_of = { λ pipes. pipe_reading (numbers_of pipes.nodes.now) };
 
     fn read(
         &self,
@@ -61,7 +60,7 @@ impl<'a> RecordKind<'a> for Pipes<'a> {
         naming: Naming,
     ) -> Result<Reading<(Text, u32, u32)>, OutOfMemory> {
         match line.section {
-            SectionName::Conduits => read_pipe(alloc, &self.nodes, line, naming),
+            SectionName::Conduits => read_pipe(alloc, self.nodes, line, naming),
             _ => Ok(Reading::Other),
         }
     }
@@ -86,11 +85,7 @@ fn read_pipe<'a>(
 }
 
 // The numbers of a pipe's nodes, or the first fault of its line.
-fn pipe_ends<'a>(
-    nodes: &Names<'a>,
-    naming: Naming,
-    tokens: &'a [Text],
-) -> Result<(u32, u32), Fault>
+fn pipe_ends<'a>(nodes: &Names<'a>, naming: Naming, tokens: &'a [Text]) -> Result<(u32, u32), Fault>
     ensures { result ≡ pipe_ends_of (numbers_of nodes.now) naming tokens.now }
 {
     let [_, first, second, ..] = tokens else {
@@ -113,11 +108,9 @@ fn read_pipes(
     ensures faults { OnOk result (faults.new ≡ cut (merged faults.old (cut (gather (fault_at pipe_name (pipe_reading (number_in (defined node_name lines.now)))) [] lines.now)))) }
 {
     let nodes = number_names(alloc, &Nodes, lines)?;
-    let kind = Pipes { nodes };
-    let names = number_names(alloc, &kind, lines)?;
-    let mut mine = List::new(alloc);
-    read_records(alloc, &kind, &names, lines, pipes, &mut mine)?;
-    merge_faults(alloc, faults, &mine)?;
+    let kind = Pipes { nodes: &nodes };
+    let found = read_kind(alloc, &kind, lines, pipes)?;
+    merge_faults(alloc, faults, &found)?;
     Ok(())
 }
 
@@ -136,7 +129,11 @@ fn reads_pipes_between_nodes_of_later_lines(rt: HostRuntime) -> Result<(), Fail>
         assert_eq!(rt; name.as_slice(), b"C1".as_slice());
         assert_eq!(rt; (*from, *to), (1, 0));
     }
-    let expected = [(8, 207, b"C1".as_slice()), (9, 203, b"J1".as_slice()), (10, 209, b"J3".as_slice())];
+    let expected = [
+        (8, 207, b"C1".as_slice()),
+        (9, 203, b"J1".as_slice()),
+        (10, 209, b"J3".as_slice()),
+    ];
     assert_eq!(rt; faults.as_slice().len(), 3);
     for (fault, (line, number, token)) in faults.as_slice().iter().zip(expected.iter()) {
         assert_eq!(rt; (fault.line, fault.number), (*line, *number));

@@ -5,5 +5,4 @@ ghost use Rattle.inp_lines.specs.Laws.{MergesInLineOrder};
 /// sources in the order of lines, cut.
 pub fn merges_in_line_order()
     ensures { MergesInLineOrder }
-{
-}
+{}

@@ -2,7 +2,7 @@
 //! lines, names and their numbers, and lists of faults in line order.
 //!
 //! `split_lines` makes the lines. A kind of record says by `Kind` which name a line defines, and by `RecordKind` what
-//! a line is read as; `number_names` and `read_records` walk over all lines, so that a name may stand before the line
+//! a line is read as; `number_names` and `read_kind` walk over all lines, so that a name may stand before the line
 //! that defines it. A record that is made of several lines is read by a `LineWalk`. Their contracts speak of `gather`,
 //! which lists what each line gives by the lines before it (`specs/Gather`), of `defined`, the names without repeats
 //! (`specs/Names`), and of `merged`, two lists of faults in line order (`specs/Merge`).
@@ -26,7 +26,9 @@ mod tokens;
 mod walk;
 
 pub use fault::{Fault, add_fault, copy_token, fault_of_line};
-pub use kind::{Kind, RecordKind, count_line, naming_of_line, number_names, read_records};
+pub use kind::{
+    Kind, RecordKind, count_line, naming_of_line, number_names, read_kind, read_records,
+};
 pub use laws::merges_in_line_order;
 pub use line::{Line, SectionName};
 pub use merge::merge_faults;

@@ -3,9 +3,8 @@ ghost use Rattle.std.specs.Prelude.{◌≡◌, ◌∷◌, [], IfOk, OnOk, MatchO
 ghost use Rattle.inp_lines.specs.Faults.{cut};
 ghost use Rattle.inp_lines.specs.Merge.{merged};
 
-use std::alloc::Global;
-
 use net_types::{LineFault, List, OutOfMemory, Text};
+use std::alloc::Global;
 
 /// Merges the faults of other lines into a list: both lists and the result are in the order of lines, and the first
 /// hundred are kept. Of faults of one line those that were in the list come first.

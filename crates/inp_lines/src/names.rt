@@ -3,10 +3,9 @@ ghost use Rattle.std.specs.Prelude.{◌≡◌, ◌++◌, [], ℕ, List as Sequen
 ghost use Rattle.inp_lines.specs.Names.{number_in, with_first, naming_among, naming_by, is_below};
 ghost use Rattle.inp_lines.specs.Numbers.{numbers_of};
 
+use net_types::OutOfMemory;
 use std::alloc::Global;
 use std::collections::BTreeMap;
-
-use net_types::OutOfMemory;
 
 /// How the name that a line gives stands to the names before it.
 #[derive(Clone, Copy, Debug, PartialEq, Eq)]

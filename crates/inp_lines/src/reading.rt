@@ -6,7 +6,6 @@ ghost use Rattle.inp_lines.specs.Faults.{too_few_of};
 use crate::fault::Fault;
 use crate::line::Line;
 use crate::names::Naming;
-
 use net_types::Text;
 
 /// What a line is read as.

@@ -5,12 +5,10 @@ ghost use Rattle.inp_lines.specs.declared.fault.Fault.{Fault as FaultOf};
 ghost use Rattle.inp_lines.specs.Faults.{cut};
 ghost use Rattle.inp_lines.specs.Gather.{gather, walk_fault, fault_found};
 
-use std::alloc::Global;
-
-use net_types::{LineFault, List, OutOfMemory};
-
 use crate::fault::{Fault, add_fault};
 use crate::line::Line;
+use net_types::{LineFault, List, OutOfMemory};
+use std::alloc::Global;
 
 /// A reader of lines where a record is made of several lines.
 pub trait LineWalk<'a> {

@@ -1,5 +1,4 @@
 use Rattle.std.proofs.Common.{◌≡◌, ℕ, List, Option, length, take}
-use Rattle.inp_lines.specs.declared.line.Line.{Line}
 use Rattle.inp_lines.specs.Names.{number_in, defined}
 use Rattle.inp_lines.specs.Numbers.{numbers_of}
 use Rattle.inp_lines.proofs.kind.number_names.Given as goal

@@ -1,6 +1,5 @@
 use Rattle.std.proofs.Common.{◌≡◌, ◌≤◌, ◌++◌, [], ℕ, List, length, take}
 use Rattle.net_types.specs.declared.faults.LineFault.{LineFault}
-use Rattle.inp_lines.specs.declared.line.Line.{Line}
 use Rattle.inp_lines.specs.Faults.{cut}
 use Rattle.inp_lines.specs.Gather.{gather, record_at, fault_at}
 use Rattle.inp_lines.specs.Names.{defined}
@@ -15,8 +14,8 @@ pub record ReadSoFar {A : Type 0} (held : List (List ℕ)) (count : ℕ) (record
 
 abbrev pub invariant-loop-line : goal.invariant-loop-line
 invariant-loop-line g l =
-  let before = take l.line-index l.line-items in
-  let name_of = g.K.Kind.name_of l.kind in
-  let reading_of = g.K.RecordKind.reading_of l.kind in
-  ReadSoFar (defined name_of before) l.count l.records (l.initial.records ++ gather (record_at name_of reading_of) [] before)
+    let before = take l.line-index l.line-items in
+    let name_of = g.K.Kind.name_of l.kind in
+    let reading_of = g.K.RecordKind.reading_of l.kind in
+    ReadSoFar (defined name_of before) l.count l.records (l.initial.records ++ gather (record_at name_of reading_of) [] before)
     l.faults (l.initial.faults ++ gather (fault_at name_of reading_of) [] before)

@@ -1,4 +1,4 @@
-use Rattle.std.proofs.Common.{sym, ◌∙◌, arith}
+use Rattle.std.proofs.Common.{sym, ◌∙◌}
 use Rattle.std.proofs.lemmas.Map.Text.{btree_map_updates_str}
 use Rattle.inp_lines.proofs.NameLemmas.{numbers_known, numbers_full, numbers_more}
 use Rattle.inp_lines.specs.Numbers.{numbers_of}

@@ -1,4 +1,4 @@
-use Rattle.std.proofs.Common.{◌≡◌, ◌≤◌, ◌++◌, [], ℕ, List, Option, length, take}
+use Rattle.std.proofs.Common.{◌≡◌, ◌≤◌, ◌++◌, [], List, length, take}
 use Rattle.net_types.specs.declared.faults.LineFault.{LineFault}
 use Rattle.inp_lines.specs.Faults.{cut}
 use Rattle.inp_lines.specs.Gather.{gather, walk_fault}
@@ -13,7 +13,7 @@ pub record WalkedSoFar {F : Type 0} (After : Type 0) (fault_of first : F) (fault
 
 abbrev pub invariant-loop-line : goal.invariant-loop-line
 invariant-loop-line g l =
-  let before = take l.line-index l.line-items in
-  let walk = g.W.LineWalk in
-  WalkedSoFar (walk.is_after l.walk before l.line-items) (walk.fault_of l.walk) (walk.fault_of l.initial.walk)
+    let before = take l.line-index l.line-items in
+    let walk = g.W.LineWalk in
+    WalkedSoFar (walk.is_after l.walk before l.line-items) (walk.fault_of l.walk) (walk.fault_of l.initial.walk)
     l.faults (l.initial.faults ++ gather (walk_fault (walk.fault_of l.initial.walk)) [] before)

@@ -1,0 +1,5 @@
+pub mod Law
+pub mod Ranges
+pub mod Laws
+pub mod Sums
+pub mod FortyLinks

@@ -1,0 +1,5 @@
+pub mod LoopLemmas
+pub mod SumLemmas
+pub mod RangeLemmas
+pub mod TrialLemmas
+pub mod StepLemmas

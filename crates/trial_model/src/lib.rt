@@ -1,0 +1,24 @@
+//! Trials and routing steps by one worker: the state of a network, one trial of it, and the successive
+//! trials of a routing step, over any [`phase_law::PhaseLaw`].
+//!
+//! A trial asks the law for every link's share from the heads of the trial before, sums the shares at the
+//! nodes, and asks for every node's next head from these sums. A step repeats trials until all nodes are
+//! settled.
+//!
+//! The contracts that matter: [`trial_alone`] leaves `trial` of the state and gives its count of unsettled
+//! nodes (`specs/Trial.antt`), and [`step_alone`] ends where `IsEnd` says, which fits one end only
+//! (`specs/RoutingStep.antt`). Both leave a state that fits the law again (`specs/Fits.antt`).
+#![tactic(auto)]
+
+mod head_phase;
+mod link_phase;
+mod nets;
+mod step;
+mod sums;
+#[cfg(test)]
+mod tests;
+mod trial;
+
+pub use nets::Nets;
+pub use step::{StepEnd, end_is_unique, step_alone, step_has_an_end};
+pub use trial::trial_alone;
