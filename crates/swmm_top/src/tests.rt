@@ -4,12 +4,15 @@ ghost use Rattle.std.specs.Prelude.{◌≤◌};
 use crate::{INPUT_LIMIT, Port, Status, TopFault, check_top, file_names, run_alone_top, swmm_top};
 use fault_ports::{MemSink, MemSource, OpenGate};
 use net_types::{List, OutOfMemory, Text};
-use std::alloc::Global;
+use std::alloc::{AllocError, Global};
 use std::test::Fail;
 
 const EMPTY_REPORT: &[u8] = b"SWMM5-FX REPORT\n\nInput Faults\nERROR 145: no outfall\n";
 
 const OTHER_REPORT: &[u8] = b"SWMM5-FX REPORT\n\nInput Faults\nERROR 401: not in this profile\n";
+
+const TOO_LONG_REPORT: &[u8] =
+    b"SWMM5-FX REPORT\n\nInput Faults\nERROR 402 input longer than 33554432 bytes\n";
 
 // What a run of an input over memory answers, and its report.
 #[derive(Drop)]
@@ -97,19 +100,30 @@ fn writes_nothing_after_a_read_fault(rt: HostRuntime) -> Result<(), Fail> {
     Ok(())
 }
 
+// An input of line feeds alone.
+fn line_feeds(alloc: Global, count: usize) -> Result<Vec<u8>, AllocError> {
+    let mut bytes = Vec::new(alloc);
+    bytes.resize(count, b'\n')?;
+    Ok(bytes)
+}
+
+#[test]
+fn reads_an_input_at_the_limit(rt: HostRuntime) -> Result<(), Fail> {
+    let alloc = rt.alloc();
+    let input = line_feeds(alloc, INPUT_LIMIT)?;
+    let ran = run_over(alloc, &input, 4096, &[], &[])?;
+    assert_eq!(rt; ran.answer, Ok(Status::Refused));
+    assert_eq!(rt; ran.report.held(), OTHER_REPORT);
+    Ok(())
+}
+
 #[test]
 fn refuses_one_byte_past_the_limit(rt: HostRuntime) -> Result<(), Fail> {
     let alloc = rt.alloc();
-    let input = vec![in alloc; b'\n'; INPUT_LIMIT + 1]?;
-    let full = run_over(alloc, &input[..INPUT_LIMIT], 4096, &[], &[])?;
-    assert_eq!(rt; full.answer, Ok(Status::Refused));
-    assert_eq!(rt; full.report.held(), OTHER_REPORT);
-    let over = run_over(alloc, &input, 4096, &[], &[])?;
-    assert_eq!(rt; over.answer, Ok(Status::Refused));
-    assert_eq!(rt;
-        over.report.held(),
-        b"SWMM5-FX REPORT\n\nInput Faults\nERROR 402 input longer than 33554432 bytes\n".as_slice()
-    );
+    let input = line_feeds(alloc, INPUT_LIMIT + 1)?;
+    let ran = run_over(alloc, &input, 4096, &[], &[])?;
+    assert_eq!(rt; ran.answer, Ok(Status::Refused));
+    assert_eq!(rt; ran.report.held(), TOO_LONG_REPORT);
     Ok(())
 }
 
