@@ -1,0 +1,66 @@
+-- Inflows: their count along a walk over lines, and what a line is read as.
+use Rattle.std.proofs.Common.{◌≡◌, ◌∷◌, [], ◌+◌, ◌<◌, ℕ, ℤ, pos, true, false, cond, not, Bool, List, length, take, get_or, nat_le, nat_lt, min, refl, ap, sym, ◌∙◌, arith, length-append, filter, Option, None, Some}
+use Rattle.std.specs.Bool.{⊤}
+use Rattle.std.proofs.lemmas.Bool.Decides.{nat_tests}
+use Rattle.std.proofs.lemmas.List.Elements.{filter-append}
+use Rattle.net_types.specs.declared.inflows.Inflow.{Inflow}
+use Rattle.net_types.specs.declared.options.FlowUnits.{FlowUnits}
+use Rattle.inp_values.specs.declared.quantities.Quantity.TheVariants.{Raw}
+use Rattle.inp_lines.specs.declared.line.Line.{Line}
+use Rattle.inp_lines.specs.declared.line.SectionName.{SectionName}
+use Rattle.inp_lines.specs.declared.line.SectionName.TheVariants as section
+use Rattle.inp_lines.specs.Faults.{token_at, too_few_of}
+use Rattle.inp_lines.specs.Laws.{Fits}
+use Rattle.inp_lines.specs.Readings.{is_long, needed_of}
+use Rattle.inp_lines.proofs.GatherLemmas.{line_push}
+use Rattle.inp_objects.specs.Inflows.{counts_as_inflow, count_after_line, inflow_of, inflow_form_of, inflow_reading, room_of}
+use Rattle.inp_objects.specs.Items.{number_or, no_more_of}
+use Rattle.inp_objects.specs.Meaning.{IsInflow, IsNumberOr}
+use Rattle.inp_objects.specs.Objects.{is_inflow_line}
+use Rattle.inp_objects.proofs.ItemLemmas.{OnGood, line_good, any_good, needed_good, number_or_good, number_or_unique, some_unique, fits_plain}
+
+-- the count of the inflows of lines, which ends at the limit
+abbrev pub counted : List Line → ℕ
+counted lines = min 20000 (length (filter counts_as_inflow lines))
+
+-- the test of the limit on this count
+pub full_by_count : (n count : ℕ) → count ≡ min 20000 n → nat_le 20000 count ≡ nat_le 20000 n
+full_by_count n count e = elim (nat_le 20000 n) as (λ b. nat_le 20000 n ≡ b → nat_le 20000 count ≡ b) [ true ↦ λ t. grind (arith, nat_tests) | false ↦ λ t. grind (arith, nat_tests) ] refl
+
+-- the count after one more line
+one_more : (n : ℕ) (yes : Bool) (line : Line) → min 20000 (n + length (cond yes (line ∷ []) [])) ≡ cond yes (min 20000 (min 20000 n + 1)) (min 20000 n)
+one_more n true line = omega arith
+one_more n false line = omega arith
+
+pub count_next : (lines : List Line) (i : ℕ) (line : Line) → i < length lines → line ≡ get_or lines i line → counted (take (i + 1) lines) ≡ count_after_line line (counted (take i lines))
+count_next lines i line h e =
+    ap counted (line_push lines i line h e)
+    ∙ (ap (λ (l : List Line). min 20000 (length l)) (filter-append counts_as_inflow (take i lines) (line ∷ []))
+    ∙ (ap (λ n. min 20000 n) (length-append (filter counts_as_inflow (take i lines)) (filter counts_as_inflow (line ∷ [])))
+    ∙ one_more (length (filter counts_as_inflow (take i lines))) (counts_as_inflow line) line))
+
+-- the items of an inflow mean it
+pub inflow_good : (units : FlowUnits) (nodes : List ℕ → Option ℕ) (full : Bool) (tokens : List (List ℕ)) → OnGood (inflow_of units nodes full tokens) (IsInflow units nodes tokens)
+unfolding inflow_of
+inflow_good units nodes full tokens = line_good
+    (λ (room : Unit {0}) (node : ℕ) (form : Unit {0}) (scale6 : ℤ) (base6 : ℤ) (end : Unit {0}). (let made : Inflow = record { node = node; series = None; scale6 = scale6; base6 = base6; pattern = None } in made))
+    (λ _. ⊤) (λ node. nodes (token_at tokens 0) ≡ Some node) (λ _. ⊤) (IsNumberOr (pos 1_000_000) units Raw tokens 5) (IsNumberOr (pos 0) units Raw tokens 6) (λ _. ⊤) (IsInflow units nodes tokens)
+    (nat_lt (length tokens) 3) (too_few_of tokens)
+    (room_of full) (needed_of (nodes (token_at tokens 0)) 209 0) (inflow_form_of units tokens) (number_or (pos 1_000_000) units Raw tokens 5) (number_or (pos 0) units Raw tokens 6) (no_more_of tokens 7)
+    (any_good (room_of full)) (needed_good (nodes (token_at tokens 0)) 209 0) (any_good (inflow_form_of units tokens)) (number_or_good (pos 1_000_000) units Raw tokens 5) (number_or_good (pos 0) units Raw tokens 6) (any_good (no_more_of tokens 7))
+    (λ room node form scale6 base6 end _ is _ scale base _. record { node_is = is; series_is = refl; scale_is = scale; base_is = base; pattern_is = refl })
+
+pub fits_inflow : (units : FlowUnits) (nodes : List ℕ → Option ℕ) (full : Bool) (line : Line) → Fits (λ l inflow. IsInflow units nodes l.tokens inflow) is_inflow_line line (inflow_reading units nodes full line)
+fits_inflow units nodes full line = at line.section line.number line.tokens line.bytes where
+  at : (s : SectionName) (number : ℕ) (tokens : List (List ℕ)) (bytes : List ℕ) → let here : Line = record { number = number; section = s; tokens = tokens; bytes = bytes } in Fits (λ l inflow. IsInflow units nodes l.tokens inflow) is_inflow_line here (inflow_reading units nodes full here)
+  at section.Inflows number tokens bytes = let here : Line = record { number = number; section = section.Inflows; tokens = tokens; bytes = bytes } in
+      fits_plain (λ (l : Line) inflow. IsInflow units nodes l.tokens inflow) is_inflow_line here (is_long here) (inflow_of units nodes full tokens) (λ e. ap not e) (λ e. ap not e) (inflow_good units nodes full tokens)
+  at _ number tokens bytes = refl
+
+-- an inflow with these parts
+same_inflow : (a b : Inflow) → a.node ≡ b.node → a.series ≡ b.series → a.scale6 ≡ b.scale6 → a.base6 ≡ b.base6 → a.pattern ≡ b.pattern → a ≡ b
+same_inflow a b p q r s t = λ i. record { node = p i; series = q i; scale6 = r i; base6 = s i; pattern = t i }
+
+pub inflow_unique : (units : FlowUnits) (nodes : List ℕ → Option ℕ) (tokens : List (List ℕ)) (a b : Inflow) → IsInflow units nodes tokens a → IsInflow units nodes tokens b → a ≡ b
+inflow_unique units nodes tokens a b h k = same_inflow a b (some_unique _ _ _ h.node_is k.node_is) (h.series_is ∙ sym k.series_is)
+    (number_or_unique _ _ _ _ _ _ _ h.scale_is k.scale_is) (number_or_unique _ _ _ _ _ _ _ h.base_is k.base_is) (h.pattern_is ∙ sym k.pattern_is)

@@ -1,0 +1,9 @@
+pub mod Keywords
+pub mod OptionNames
+pub mod Ranges
+pub mod Values
+pub mod OptionLines
+pub mod Chosen
+pub mod Latest
+pub mod Options
+pub mod Warnings

@@ -1,0 +1,128 @@
+// The values of numbers and switches.
+ghost use Rattle.std.specs.Prelude.{◌≡◌, ◌^◌, pos, IfOk};
+ghost use Rattle.fixed_num.specs.Decimal.{scaled_of};
+ghost use Rattle.fixed_num.specs.Ranges.{IsBetween};
+ghost use Rattle.inp_lines.specs.Readings.{needed_of};
+ghost use Rattle.inp_options.specs.Ranges.{IsTrials};
+ghost use Rattle.inp_options.specs.Values.{area_of, built_of, is_zero, off_of, tolerance_of, trials_of, within, zero_as};
+ghost use Rattle.inp_values.specs.Field.{whole_of};
+ghost use Rattle.inp_values.specs.Units.{unit_for};
+
+use crate::setting::Setting;
+use fixed_num::scaled_decimal;
+use inp_lines::Fault;
+use inp_values::{Quantity, unit_of, whole};
+use net_types::FlowUnits;
+
+/// A value that lies in a range, or a fault.
+pub(crate) fn in_range(value: Option<i64>, least: i64, most: i64, number: u32) -> Result<i64, Fault>
+    ensures value { result ≡ needed_of (within least most value) number 1 }
+    ensures range { IfOk result (λ v. IsBetween least v most) }
+{
+    let Some(value) = value else {
+        return Err(Fault { number, place: 1 });
+    };
+    if value < least {
+        return Err(Fault { number, place: 1 });
+    }
+    if value > most {
+        return Err(Fault { number, place: 1 });
+    }
+    Ok(value)
+}
+
+// The value, or the default where it is 0.
+fn zero_as(default: i64, value: Option<i64>) -> Option<i64>
+    ensures { result ≡ zero_as default value }
+{
+    if is_zero(value) {
+        return Some(default);
+    }
+    value
+}
+
+/// The least surface area of a node: 0 stands for the default, and there is nothing between it and 10,000 mm².
+#[tactic(auto, unfolding(crate::specs::Values::area_of))]
+pub(crate) fn area(units: FlowUnits, text: &[u8]) -> Result<i64, Fault>
+    ensures value { result ≡ needed_of (area_of units text.now) 211 1 }
+    ensures range { IfOk result (λ v. IsBetween (pos 10_000) v (pos (10 ^ 13))) }
+{
+    let stored = scaled_decimal(text, &unit_of(units, Quantity::NodeArea));
+    in_range(zero_as(1_167_420, stored), 10_000, 10_000_000_000_000, 211)
+}
+
+/// The head tolerance: 0 stands for the default.
+#[tactic(auto, unfolding(crate::specs::Values::tolerance_of))]
+pub(crate) fn tolerance(units: FlowUnits, text: &[u8]) -> Result<i64, Fault>
+    ensures value { result ≡ needed_of (tolerance_of units text.now) 211 1 }
+    ensures range { IfOk result (λ v. IsBetween (pos 1) v (pos (10 ^ 9))) }
+{
+    let stored = scaled_decimal(text, &unit_of(units, Quantity::Depth));
+    in_range(zero_as(1_524, stored), 1, 1_000_000_000, 211)
+}
+
+/// The most trials of a step: 0 stands for the default, and more than 20 are over the limit.
+pub(crate) fn trials(text: &[u8]) -> Result<u32, Fault>
+    ensures value { result ≡ trials_of (whole_of text.now) }
+    ensures range { IfOk result IsTrials }
+{
+    let Some(most) = whole(text) else {
+        return Err(Fault {
+            number: 211,
+            place: 1,
+        });
+    };
+    if most > 20 {
+        return Err(Fault {
+            number: 402,
+            place: 1,
+        });
+    }
+    if most == 0 {
+        return Ok(8);
+    }
+    Ok(most)
+}
+
+/// An option that is built for one value alone.
+pub(crate) fn built(is_built: bool) -> Result<Setting, Fault>
+    ensures { result ≡ built_of is_built }
+{
+    if is_built {
+        return Ok(Setting::Fixed);
+    }
+    Err(Fault {
+        number: 401,
+        place: 1,
+    })
+}
+
+/// A switch that is built for one of its sides alone.
+pub(crate) fn off(is_on: Option<bool>) -> Result<Setting, Fault>
+    ensures { result ≡ off_of is_on }
+{
+    match is_on {
+        None => Err(Fault {
+            number: 205,
+            place: 1,
+        }),
+        Some(is_on) => built(!is_on),
+    }
+}
+
+/// Whether a value is there and is 0.
+pub(crate) fn is_zero(value: Option<i64>) -> bool
+    ensures { result ≡ is_zero value }
+{
+    match value {
+        Some(value) => value == 0,
+        None => false,
+    }
+}
+
+/// The value of a number without a unit, in millionths.
+pub(crate) fn raw(text: &[u8]) -> Option<i64>
+    ensures { result ≡ scaled_of (unit_for FlowUnits.Cfs Quantity.Raw) text.now }
+{
+    scaled_decimal(text, &unit_of(FlowUnits::Cfs, Quantity::Raw))
+}

@@ -1,0 +1,3 @@
+pub mod SectionLines
+pub mod LinkSections
+pub mod SectionMeaning
