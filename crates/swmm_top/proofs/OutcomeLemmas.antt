@@ -1,95 +1,211 @@
 -- The outcome of an input, and of the front of it that is read.
-use Rattle.std.proofs.Common.{◌≡◌, ℕ, ◌+◌, ◌<◌, Bool, true, false, cond, nat_lt, List, [], length, take, Option, None, Some, IfSome, Result, Ok, Err, refl, sym, ap, ◌∙◌, subst, inl, inr, arith}
+use Rattle.std.proofs.Common.{◌≡◌, ◌≢◌, ℕ, ◌+◌, ◌≤◌, ◌<◌, Bool, true, false, nat_lt, List, [], ◌∷◌, length, take, Option, None, Some, IfSome, IfOk, Result, Ok, Err, refl, sym, ap, ◌∙◌, subst, inl, inr, arith}
 use Rattle.std.proofs.lemmas.List.{length-take, take_all}
 use Rattle.std.proofs.lemmas.Bool.{cases_lt, lt-ltb}
+use Rattle.std.proofs.lemmas.Bool.Decides.{nat_tests}
+use Rattle.std.specs.Bool.{MatchBool}
 use Rattle.std.specs.Io.KnownBytes.{Appends}
 use Rattle.std.proofs.KnownBytes.{Appends-nil}
-use Rattle.fault_ports.specs.Output.{AppendsPrefix}
-use Rattle.report_writer.specs.FaultReports.{project_faults_report, input_too_long_report}
-use Rattle.swmm_top.specs.Answers.{HasGiven, HasReported}
+use Rattle.net_types.specs.declared.faults.LineFault.{LineFault}
+use Rattle.net_types.specs.declared.project.Project.{Project}
+use Rattle.inp_lines.specs.declared.line.Line.{Line}
+use Rattle.inp_lines.specs.Faults.{cut}
+use Rattle.inp_lines.specs.Lines.{lines_of}
+use Rattle.inp_reader.specs.LineFaults.{line_faults}
+use Rattle.inp_reader.specs.Meaning.{Means}
+use Rattle.inp_reader.proofs.MeaningLemmas.{means_unique}
+use Rattle.fault_ports.specs.Output.{Puts, AppendsPrefix}
+use Rattle.report_writer.specs.FaultReports.{line_faults_report, project_faults_report, input_too_long_report}
+use Rattle.swmm_top.specs.Answers.{HasGiven, GivesOutcome, ReportsOutcome}
 use Rattle.swmm_top.specs.CommandWords.{Command, run, check, run_only, check_only}
 use Rattle.swmm_top.specs.Input.{TakesFront, input_limit}
-use Rattle.swmm_top.specs.Outcome.{Outcome, Gives, outcome, input_outcome, refused, project_faults_of}
+use Rattle.swmm_top.specs.Outcome.{Outcome, IsOutcome, IsInputOutcome, IsLinesOutcome, usage, refused, project_fault_of}
 use Rattle.swmm_top.specs.declared.status.Status.{Status}
-use Rattle.swmm_top.specs.declared.status.Status.TheVariants.{Usage}
+use Rattle.swmm_top.specs.declared.status.Status.TheVariants.{Usage, Refused}
 use Rattle.swmm_top.specs.declared.fault.TopFault.{TopFault}
 
+-- what faults of lines give
+pub lines_refused : (lines : List Line) (faults : List LineFault) → line_faults lines ≢ [] → faults ≡ cut (line_faults lines) → IsLinesOutcome lines (refused (line_faults_report faults))
+unfolding IsLinesOutcome
+lines_refused lines faults some is = (λ _. ap (λ l. refused (line_faults_report l)) is, λ bare. absurd (some bare))
+
+-- what lines without a fault give
+pub lines_meant : (lines : List Line) (project : Project) → line_faults lines ≡ [] → Means lines project → IsLinesOutcome lines (refused (project_faults_report (project_fault_of project ∷ [])))
+unfolding IsLinesOutcome
+lines_meant lines project bare means = (λ some. absurd (some bare), λ _. (project, means, refl))
+
+-- a list is empty or not
+bare_or : {A : Type 0} (xs : List A) (P : Type 0) → (xs ≡ [] → P) → (xs ≢ [] → P) → P
+bare_or [] P p q = p refl
+bare_or (x ∷ xs) P p q = q (λ e. cc)
+
+-- lines have one outcome
+lines_one : (lines : List Line) (a b : Outcome) → IsLinesOutcome lines a → IsLinesOutcome lines b → a ≡ b
+unfolding IsLinesOutcome
+lines_one lines a b p q =
+    bare_or (line_faults lines) (a ≡ b)
+    (λ bare. let pa = p.1 bare in let pb = q.1 bare in
+    pa.2 ∙ ap (λ project. refused (project_faults_report (project_fault_of project ∷ []))) (means_unique lines pa.0 pb.0 pa.1 pb.1) ∙ sym pb.2)
+    (λ some. p.0 some ∙ sym (q.0 some))
+
+lines_no_hotstart : (lines : List Line) (given : Outcome) → IsLinesOutcome lines given → given.hotstart ≡ []
+unfolding IsLinesOutcome
+lines_no_hotstart lines given p =
+    bare_or (line_faults lines) (given.hotstart ≡ [])
+    (λ bare. ap (λ (o : Outcome). o.hotstart) (p.1 bare).2)
+    (λ some. ap (λ (o : Outcome). o.hotstart) (p.0 some))
+
+-- a fact that follows in both branches
+both_branches : (b : Bool) (P Q R : Type 0) → (P → R) → (Q → R) → MatchBool b P Q → R
+both_branches true P Q R p q h = p h
+both_branches false P Q R p q h = q h
+
+both_equal : (b : Bool) (P Q P' Q' R : Type 0) → (P → P' → R) → (Q → Q' → R) → MatchBool b P Q → MatchBool b P' Q' → R
+both_equal true P Q P' Q' R p q h k = p h k
+both_equal false P Q P' Q' R p q h k = q h k
+
+-- an input has one outcome
+pub input_one : (input : List ℕ) (a b : Outcome) → IsInputOutcome input a → IsInputOutcome input b → a ≡ b
+unfolding IsInputOutcome
+input_one input a b p q = both_equal (nat_lt input_limit (length input)) _ _ _ _ (a ≡ b) (λ h k. h ∙ sym k) (λ h k. lines_one (lines_of input) a b h k) p q
+
+no_hotstart : (input : List ℕ) (given : Outcome) → IsInputOutcome input given → given.hotstart ≡ []
+unfolding IsInputOutcome
+no_hotstart input given p = both_branches (nat_lt input_limit (length input)) _ _ (given.hotstart ≡ []) (λ h. ap (λ (o : Outcome). o.hotstart) h) (lines_no_hotstart (lines_of input) given) p
+
+not_lt : (m n : ℕ) → n ≤ m → nat_lt m n ≡ false
+not_lt m n few = grind (arith, nat_tests)
+
+-- an input within the limit gives what its lines give; another is too long
+pub input_short : (input : List ℕ) (given : Outcome) → length input ≤ input_limit → IsLinesOutcome (lines_of input) given → IsInputOutcome input given
+unfolding IsInputOutcome
+input_short input given few p =
+    subst (λ b. MatchBool b (given ≡ refused input_too_long_report) (IsLinesOutcome (lines_of input) given)) (sym (not_lt input_limit (length input) few)) p
+
+pub input_long : (input : List ℕ) → input_limit < length input → IsInputOutcome input (refused input_too_long_report)
+unfolding IsInputOutcome
+input_long input more = subst (λ b. MatchBool b (refused input_too_long_report ≡ refused input_too_long_report) (IsLinesOutcome (lines_of input) (refused input_too_long_report))) (sym (lt-ltb _ _ more)) refl
+
 -- the bytes up to one past a limit tell whether there are more than the limit, and are all of them if not
-front_tells : (limit : ℕ) (input : List ℕ) {A : Type 0} (a : A) (f : List ℕ → A)
-    → cond (nat_lt limit (length (take (limit + 1) input))) a (f (take (limit + 1) input)) ≡ cond (nat_lt limit (length input)) a (f input)
-front_tells limit input a f =
+front_to : (limit : ℕ) (input : List ℕ) (P : Type 0) (Q : List ℕ → Type 0) → MatchBool (nat_lt limit (length (take (limit + 1) input))) P (Q (take (limit + 1) input)) → MatchBool (nat_lt limit (length input)) P (Q input)
+front_to limit input P Q h =
     elim (cases_lt limit (length input)) [
       | inl more ↦
           let longer : limit < length (take (limit + 1) input) = simp length-take (omega arith) in
-          ap (λ b. cond b a (f (take (limit + 1) input))) (lt-ltb _ _ longer) ∙ sym (ap (λ b. cond b a (f input)) (lt-ltb _ _ more))
-      | inr few ↦ ap (λ bytes. cond (nat_lt limit (length bytes)) a (f bytes)) (take_all (limit + 1) input (omega arith))
+          subst (λ b. MatchBool b P (Q input)) (sym (lt-ltb _ _ more)) (subst (λ b. MatchBool b P (Q (take (limit + 1) input))) (lt-ltb _ _ longer) h)
+      | inr few ↦ subst (λ bytes. MatchBool (nat_lt limit (length bytes)) P (Q bytes)) (take_all (limit + 1) input (omega arith)) h
     ]
 
--- the front that is read has the outcome of the whole input
-pub front_outcome : (input : List ℕ) → input_outcome (take (input_limit + 1) input) ≡ input_outcome input
-unfolding input_outcome
-front_outcome input = front_tells input_limit input (refused input_too_long_report) (λ bytes. refused (project_faults_report (project_faults_of bytes)))
+front_from : (limit : ℕ) (input : List ℕ) (P : Type 0) (Q : List ℕ → Type 0) → MatchBool (nat_lt limit (length input)) P (Q input) → MatchBool (nat_lt limit (length (take (limit + 1) input))) P (Q (take (limit + 1) input))
+front_from limit input P Q h =
+    elim (cases_lt limit (length input)) [
+      | inl more ↦
+          let longer : limit < length (take (limit + 1) input) = simp length-take (omega arith) in
+          subst (λ b. MatchBool b P (Q (take (limit + 1) input))) (sym (lt-ltb _ _ longer)) (subst (λ b. MatchBool b P (Q input)) (lt-ltb _ _ more) h)
+      | inr few ↦ subst (λ bytes. MatchBool (nat_lt limit (length bytes)) P (Q bytes)) (sym (take_all (limit + 1) input (omega arith))) h
+    ]
+
+outcome_to : (input : List ℕ) (given : Outcome) → IsInputOutcome (take (input_limit + 1) input) given → IsInputOutcome input given
+unfolding IsInputOutcome
+outcome_to input given h = front_to input_limit input (given ≡ refused input_too_long_report) (λ bytes. IsLinesOutcome (lines_of bytes) given) h
+
+outcome_from : (input : List ℕ) (given : Outcome) → IsInputOutcome input given → IsInputOutcome (take (input_limit + 1) input) given
+unfolding IsInputOutcome
+outcome_from input given h = front_from input_limit input (given ≡ refused input_too_long_report) (λ bytes. IsLinesOutcome (lines_of bytes) given) h
+
+-- what was reported of the front that is read was reported of the whole input
+front_reported : (input shown : List ℕ) (rpt₀ rpt : Option (List ℕ)) (result : Result Status TopFault) → shown ≡ take (input_limit + 1) input → ReportsOutcome shown rpt₀ rpt result → ReportsOutcome input rpt₀ rpt result
+front_reported input shown rpt₀ rpt (Ok status) is said =
+    let e = said.ended in
+    record { ended = (e.0, outcome_to input e.0 (subst (λ bytes. IsInputOutcome bytes e.0) is e.1), e.2, e.3); failed = tt }
+front_reported input shown rpt₀ rpt (Err fault) is said =
+    record { ended = tt; failed = λ given of. said.failed given (subst (λ bytes. IsInputOutcome bytes given) (sym is) (outcome_from input given of)) }
 
 -- what was reported of the bytes taken was reported of the input
 pub reported_front : (told left : Option (List ℕ)) (bytes shown : List ℕ) (rpt₀ rpt : Option (List ℕ)) (result : Result Status TopFault) → TakesFront (input_limit + 1) told left bytes → shown ≡ bytes
-    → HasReported (input_outcome shown) rpt₀ rpt result → IfSome told (λ input. HasReported (input_outcome input) rpt₀ rpt result)
+    → ReportsOutcome shown rpt₀ rpt result → IfSome told (λ input. ReportsOutcome input rpt₀ rpt result)
 reported_front None left bytes shown rpt₀ rpt result front same said = tt
-reported_front (Some input) left bytes shown rpt₀ rpt result front same said =
-    subst (λ given. HasReported given rpt₀ rpt result) (ap input_outcome (same ∙ front.0) ∙ front_outcome input) said
-
--- no input has a hotstart or is `Usage`
-branches : (b : Bool) (P : Outcome → Type 0) (x y : Outcome) → P x → P y → P (cond b x y)
-branches true P x y p q = p
-branches false P x y p q = q
-
-pub no_hotstart : (input : List ℕ) → (input_outcome input).hotstart ≡ []
-unfolding input_outcome
-no_hotstart input = branches _ (λ given. given.hotstart ≡ []) _ _ refl refl
+reported_front (Some input) left bytes shown rpt₀ rpt result front same said = front_reported input shown rpt₀ rpt result (same ∙ front.0) said
 
 -- a front of no bytes is put
 pub nothing_put : (held : Option (List ℕ)) (bytes : List ℕ) → AppendsPrefix held held bytes
 nothing_put held bytes = (0, omega arith, Appends-nil held)
 
-has_given : (given : Outcome) (rpt₀ rpt hot : Option (List ℕ)) (result : Result Status TopFault) → given.hotstart ≡ [] → HasReported given rpt₀ rpt result → HasGiven given rpt₀ rpt hot hot result
-has_given given rpt₀ rpt hot (Ok status) bare said = record { status = said.status; report = said.report; hotstart = subst (Appends hot hot) (sym bare) (Appends-nil hot); report_prefix = tt }
-has_given given rpt₀ rpt hot (Err fault) bare said = record { status = tt; report = tt; hotstart = tt; report_prefix = said.report }
+-- a report that was put whole, or a front of it
+pub report_put : (input : List ℕ) (rpt₀ rpt : Option (List ℕ)) (result : Result Status TopFault) (report : List ℕ) → IsInputOutcome input (refused report)
+    → IfOk result (λ status. status ≡ Refused) → Puts rpt₀ rpt report result → ReportsOutcome input rpt₀ rpt result
+report_put input rpt₀ rpt (Ok status) report is ended put = record { ended = (refused report, is, ended, put); failed = tt }
+report_put input rpt₀ rpt (Err fault) report is ended put =
+    record { ended = tt; failed = λ given of. subst (λ (o : Outcome). AppendsPrefix rpt₀ rpt o.report) (input_one input (refused report) given is of) put }
+
+-- nothing was put before a fault
+pub nothing_reported : (input : List ℕ) (rpt : Option (List ℕ)) (fault : TopFault) → ReportsOutcome input rpt rpt (Err fault)
+nothing_reported input rpt fault = record { ended = tt; failed = λ given of. nothing_put rpt given.report }
 
 -- a fact of what is told passes to another that follows from it
 lift_some : (told : Option (List ℕ)) (P Q : List ℕ → Type 0) → ((input : List ℕ) → P input → Q input) → IfSome told P → IfSome told Q
 lift_some None P Q f h = tt
 lift_some (Some input) P Q f h = f input h
 
-module _ (left hot_in : Option (List ℕ)) (rpt₀ rpt hot : Option (List ℕ)) (result : Result Status TopFault) where
-  -- a run gives the outcome of its input
-  pub run_gives : (command : Option Command) (inp_name rpt_name : List ℕ) → Some (run inp_name rpt_name) ≡ command
-      → IfSome left (λ input. HasReported (input_outcome input) rpt₀ rpt result) → Gives (run_only command) left hot_in (λ given. HasGiven given rpt₀ rpt hot hot result)
-  unfolding outcome
-  run_gives command inp_name rpt_name is said =
-      subst (λ c. Gives (run_only c) left hot_in (λ given. HasGiven given rpt₀ rpt hot hot result)) is
-      (lift_some left _ _ (λ input told. has_given _ rpt₀ rpt hot result (no_hotstart input) told) said)
+-- what an input gives, its command gives, and it leaves the hotstart's port as it was
+kept_hotstart : (hot : Option (List ℕ)) (bytes : List ℕ) → bytes ≡ [] → Appends hot hot bytes
+kept_hotstart hot bytes bare = subst (Appends hot hot) (sym bare) (Appends-nil hot)
 
-  -- a check gives the outcome of its input
-  pub check_gives : (command : Option Command) (inp_name rpt_name : List ℕ) → Some (check inp_name rpt_name) ≡ command
-      → IfSome left (λ input. HasReported (input_outcome input) rpt₀ rpt result) → Gives (check_only command) left hot_in (λ given. HasGiven given rpt₀ rpt hot hot result)
-  unfolding outcome
-  check_gives command inp_name rpt_name is said =
-      subst (λ c. Gives (check_only c) left hot_in (λ given. HasGiven given rpt₀ rpt hot hot result)) is
-      (lift_some left _ _ (λ input told. has_given _ rpt₀ rpt hot result (no_hotstart input) told) said)
+ended_of : (left rpt₀ rpt hot : Option (List ℕ)) (status : Status) → IfSome left (λ input. ReportsOutcome input rpt₀ rpt (Ok status))
+    → IfSome left (λ input. (given : Outcome) × IsInputOutcome input given × HasGiven rpt₀ rpt hot hot status given)
+ended_of left rpt₀ rpt hot status said =
+    lift_some left _ _ (λ input told.
+    let e = told.ended in
+    (e.0, e.1, record { status_is = e.2; report = e.3; hotstart = kept_hotstart hot _ (no_hotstart input e.0 e.1) })) said
+
+failed_of : (left rpt₀ rpt : Option (List ℕ)) (fault : TopFault) → IfSome left (λ input. ReportsOutcome input rpt₀ rpt (Err fault))
+    → IfSome left (λ input. (given : Outcome) → IsInputOutcome input given → AppendsPrefix rpt₀ rpt given.report)
+failed_of left rpt₀ rpt fault said = lift_some left _ _ (λ input told. told.failed) said
+
+-- a run gives the outcome of its input
+pub run_gives : (left hot_in rpt₀ rpt hot : Option (List ℕ)) (result : Result Status TopFault) (command : Option Command) (inp_name rpt_name : List ℕ) → Some (run inp_name rpt_name) ≡ command
+    → IfSome left (λ input. ReportsOutcome input rpt₀ rpt result) → GivesOutcome (run_only command) left hot_in rpt₀ rpt hot hot result
+unfolding IsOutcome
+run_gives left hot_in rpt₀ rpt hot (Ok status) command inp_name rpt_name is said =
+    subst (λ c. GivesOutcome (run_only c) left hot_in rpt₀ rpt hot hot (Ok status)) is (record { ended = ended_of left rpt₀ rpt hot status said; failed = tt })
+run_gives left hot_in rpt₀ rpt hot (Err fault) command inp_name rpt_name is said =
+    subst (λ c. GivesOutcome (run_only c) left hot_in rpt₀ rpt hot hot (Err fault)) is (record { ended = tt; failed = failed_of left rpt₀ rpt fault said })
+
+-- a check gives the outcome of its input
+pub check_gives : (left hot_in rpt₀ rpt hot : Option (List ℕ)) (result : Result Status TopFault) (command : Option Command) (inp_name rpt_name : List ℕ) → Some (check inp_name rpt_name) ≡ command
+    → IfSome left (λ input. ReportsOutcome input rpt₀ rpt result) → GivesOutcome (check_only command) left hot_in rpt₀ rpt hot hot result
+unfolding IsOutcome
+check_gives left hot_in rpt₀ rpt hot (Ok status) command inp_name rpt_name is said =
+    subst (λ c. GivesOutcome (check_only c) left hot_in rpt₀ rpt hot hot (Ok status)) is (record { ended = ended_of left rpt₀ rpt hot status said; failed = tt })
+check_gives left hot_in rpt₀ rpt hot (Err fault) command inp_name rpt_name is said =
+    subst (λ c. GivesOutcome (check_only c) left hot_in rpt₀ rpt hot hot (Err fault)) is (record { ended = tt; failed = failed_of left rpt₀ rpt fault said })
 
 -- words that are no command give `Usage` and nothing else
-pub usage_gives : (command : Option Command) (left hot_in rpt hot : Option (List ℕ)) → command ≡ None → Gives command left hot_in (λ given. HasGiven given rpt rpt hot hot (Ok Usage))
-unfolding outcome
-usage_gives command left hot_in rpt hot is = subst (λ c. Gives c left hot_in (λ given. HasGiven given rpt rpt hot hot (Ok Usage))) (sym is) (record { status = refl; report = Appends-nil rpt; hotstart = Appends-nil hot; report_prefix = tt })
-
--- a command without a hotstart leaves its port as it was
-with_hotstart : (given : Outcome) (rpt₀ rpt hot : Option (List ℕ)) (result : Result Status TopFault) → given.hotstart ≡ [] → HasGiven given rpt₀ rpt None None result → HasGiven given rpt₀ rpt hot hot result
-with_hotstart given rpt₀ rpt hot (Ok status) bare said = record { status = said.status; report = said.report; hotstart = subst (Appends hot hot) (sym bare) (Appends-nil hot); report_prefix = tt }
-with_hotstart given rpt₀ rpt hot (Err fault) bare said = record { status = tt; report = tt; hotstart = tt; report_prefix = said.report_prefix }
+pub usage_gives : (command : Option Command) (left hot_in rpt hot : Option (List ℕ)) → command ≡ None → GivesOutcome command left hot_in rpt rpt hot hot (Ok Usage)
+unfolding IsOutcome
+usage_gives command left hot_in rpt hot is =
+    subst (λ c. GivesOutcome c left hot_in rpt rpt hot hot (Ok Usage)) (sym is)
+    (record { ended = (usage, refl, record { status_is = refl; report = Appends-nil rpt; hotstart = Appends-nil hot }); failed = tt })
 
 -- what a check gives on its own it gives when it was handed on
+handed_ended : (left rpt₀ rpt hot : Option (List ℕ)) (status : Status) → IfSome left (λ input. (given : Outcome) × IsInputOutcome input given × HasGiven rpt₀ rpt None None status given)
+    → IfSome left (λ input. (given : Outcome) × IsInputOutcome input given × HasGiven rpt₀ rpt hot hot status given)
+handed_ended left rpt₀ rpt hot status said =
+    lift_some left _ _ (λ input e. (e.0, e.1, record { status_is = e.2.status_is; report = e.2.report; hotstart = kept_hotstart hot _ (no_hotstart input e.0 e.1) })) said
+
 pub check_handed : (command : Option Command) (inp_name rpt_name : List ℕ) (left hot_in rpt₀ rpt hot : Option (List ℕ)) (result : Result Status TopFault) → Some (check inp_name rpt_name) ≡ command
-    → Gives (check_only command) left None (λ given. HasGiven given rpt₀ rpt None None result) → Gives command left hot_in (λ given. HasGiven given rpt₀ rpt hot hot result)
-unfolding outcome
-check_handed command inp_name rpt_name left hot_in rpt₀ rpt hot result is =
-    subst (λ c. Gives (check_only c) left None (λ given. HasGiven given rpt₀ rpt None None result) → Gives c left hot_in (λ given. HasGiven given rpt₀ rpt hot hot result)) is
-    (λ said. lift_some left _ _ (λ input told. with_hotstart _ rpt₀ rpt hot result (no_hotstart input) told) said)
+    → GivesOutcome (check_only command) left None rpt₀ rpt None None result → GivesOutcome command left hot_in rpt₀ rpt hot hot result
+unfolding IsOutcome
+check_handed command inp_name rpt_name left hot_in rpt₀ rpt hot (Ok status) is =
+    subst (λ c. GivesOutcome (check_only c) left None rpt₀ rpt None None (Ok status) → GivesOutcome c left hot_in rpt₀ rpt hot hot (Ok status)) is
+    (λ said. record { ended = handed_ended left rpt₀ rpt hot status said.ended; failed = tt })
+check_handed command inp_name rpt_name left hot_in rpt₀ rpt hot (Err fault) is =
+    subst (λ c. GivesOutcome (check_only c) left None rpt₀ rpt None None (Err fault) → GivesOutcome c left hot_in rpt₀ rpt hot hot (Err fault)) is
+    (λ said. record { ended = tt; failed = said.failed })
+
+-- the same words and bytes have one outcome
+pub outcome_one : (command : Option Command) (input hotstart : List ℕ) (a b : Outcome) → IsOutcome command input hotstart a → IsOutcome command input hotstart b → a ≡ b
+unfolding IsOutcome
+outcome_one None input hotstart a b p q = p ∙ sym q
+outcome_one (Some (run inp_name rpt_name)) input hotstart a b p q = input_one input a b p q
+outcome_one (Some (check inp_name rpt_name)) input hotstart a b p q = input_one input a b p q

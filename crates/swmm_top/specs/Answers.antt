@@ -2,28 +2,32 @@
 use Rattle.std.specs.Prelude.{◌≡◌, ◌⊎◌, ℕ, ◌+◌, List, Option, Some, Result, IfSome, IsSome, IfOk, OnOk, OnErr, IfErr, IsErrOf, drop}
 use Rattle.std.specs.Io.KnownBytes.{Appends}
 use Rattle.fault_ports.specs.Causes.{Rose}
-use Rattle.fault_ports.specs.Output.{AppendsPrefix, Puts}
+use Rattle.fault_ports.specs.Output.{AppendsPrefix}
 use Rattle.swmm_top.specs.CommandWords.{Command}
 use Rattle.swmm_top.specs.Input.{input_limit}
-use Rattle.swmm_top.specs.Outcome.{Outcome}
+use Rattle.swmm_top.specs.Outcome.{Outcome, Gives, GivesOnly, IsInputOutcome}
 use Rattle.swmm_top.specs.TopFaults.{IsFaultOfPort}
 use Rattle.swmm_top.specs.declared.status.Status.{Status}
 use Rattle.swmm_top.specs.declared.fault.Port.TheVariants.{Inp, HotIn, Rpt, HotOut}
 use Rattle.swmm_top.specs.declared.fault.TopFault.{TopFault}
 use Rattle.swmm_top.specs.declared.fault.TopFault.TheVariants.{Read, Write, OutOfMemory}
 
--- where the call ended, its status is that of the outcome, and the report and the hotstart gained the bytes of the
--- outcome; else the report gained a front of the outcome's report
-pub record HasGiven (given : Outcome) (rpt₀ rpt hot₀ hot : Option (List ℕ)) (result : Result Status TopFault) : Type 0 where
-  pub status : IfOk result (λ status. status ≡ given.status)
-  pub report : OnOk result (Appends rpt₀ rpt given.report)
-  pub hotstart : OnOk result (Appends hot₀ hot given.hotstart)
-  pub report_prefix : OnErr result (AppendsPrefix rpt₀ rpt given.report)
+-- where the call ended, its status is that of an outcome of the command, and the report and the hotstart gained the
+-- bytes of that outcome
+pub record HasGiven (rpt₀ rpt hot₀ hot : Option (List ℕ)) (status : Status) (given : Outcome) : Type 0 where
+  pub status_is : status ≡ given.status
+  pub report : Appends rpt₀ rpt given.report
+  pub hotstart : Appends hot₀ hot given.hotstart
 
--- the same of the report alone
-pub record HasReported (given : Outcome) (rpt₀ rpt : Option (List ℕ)) (result : Result Status TopFault) : Type 0 where
-  pub status : IfOk result (λ status. status ≡ given.status)
-  pub report : Puts rpt₀ rpt given.report result
+-- what the command gives, where the call ended; else the report gained a front of the report of every outcome
+pub record GivesOutcome (command : Option Command) (inp hot_in rpt₀ rpt hot₀ hot : Option (List ℕ)) (result : Result Status TopFault) : Type 0 where
+  pub ended : IfOk result (λ status. Gives command inp hot_in (HasGiven rpt₀ rpt hot₀ hot status))
+  pub failed : OnErr result (GivesOnly command inp hot_in (λ given. AppendsPrefix rpt₀ rpt given.report))
+
+-- the same of an input and its report alone
+pub record ReportsOutcome (input : List ℕ) (rpt₀ rpt : Option (List ℕ)) (result : Result Status TopFault) : Type 0 where
+  pub ended : IfOk result (λ status. (given : Outcome) × IsInputOutcome input given × (status ≡ given.status) × Appends rpt₀ rpt given.report)
+  pub failed : OnErr result ((given : Outcome) → IsInputOutcome input given → AppendsPrefix rpt₀ rpt given.report)
 
 -- a fault comes only where the count of faults of its port rose, and where no count rose only memory can be wanting
 pub record HasCauses (inp₀ inp hot_in₀ hot_in rpt₀ rpt hot_out₀ hot_out : ℕ) (result : Result Status TopFault) : Type 0 where

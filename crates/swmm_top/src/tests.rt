@@ -14,6 +14,11 @@ const OTHER_REPORT: &[u8] = b"SWMM5-FX REPORT\n\nInput Faults\nERROR 401: not in
 const TOO_LONG_REPORT: &[u8] =
     b"SWMM5-FX REPORT\n\nInput Faults\nERROR 402 input longer than 33554432 bytes\n";
 
+const FAULTY_INPUT: &[u8] = b"[JUNCTIONS]\nJ1\nJ1 x\nJ2 0\nJ2 0\n";
+
+const FAULTY_REPORT: &[u8] =
+    b"SWMM5-FX REPORT\n\nInput Faults\nERROR 203 line 2: too few items J1\nERROR 211 line 3: invalid number x\nERROR 207 line 5: duplicate name J2\n";
+
 // What a run of an input over memory answers, and its report.
 #[derive(Drop)]
 struct Ran {
@@ -77,10 +82,18 @@ fn refuses_an_empty_input(rt: HostRuntime) -> Result<(), Fail> {
 #[test]
 fn reads_an_input_in_pieces(rt: HostRuntime) -> Result<(), Fail> {
     for most in [1, 64] {
-        let ran = run_over(rt.alloc(), b"[TITLE]\none reach\n", most, &[], &[])?;
+        let ran = run_over(rt.alloc(), b"[OUTFALLS]\nO1 0 FIXED 1 NO\n", most, &[], &[])?;
         assert_eq!(rt; ran.answer, Ok(Status::Refused));
         assert_eq!(rt; ran.report.held(), OTHER_REPORT);
     }
+    Ok(())
+}
+
+#[test]
+fn reports_the_faults_of_lines(rt: HostRuntime) -> Result<(), Fail> {
+    let ran = run_over(rt.alloc(), FAULTY_INPUT, 64, &[], &[])?;
+    assert_eq!(rt; ran.answer, Ok(Status::Refused));
+    assert_eq!(rt; ran.report.held(), FAULTY_REPORT);
     Ok(())
 }
 
@@ -113,7 +126,7 @@ fn reads_an_input_at_the_limit(rt: HostRuntime) -> Result<(), Fail> {
     let input = line_feeds(alloc, INPUT_LIMIT)?;
     let ran = run_over(alloc, &input, 4096, &[], &[])?;
     assert_eq!(rt; ran.answer, Ok(Status::Refused));
-    assert_eq!(rt; ran.report.held(), OTHER_REPORT);
+    assert_eq!(rt; ran.report.held(), EMPTY_REPORT);
     Ok(())
 }
 

@@ -3,10 +3,9 @@ ghost use Rattle.std.specs.Prelude.{◌≡◌, ◌⊎◌, ◌+◌, ◌-◌, ◌^
 ghost use Rattle.std.specs.Io.KnownBytes.{Appends, Keeps};
 ghost use Rattle.fault_ports.specs.Causes.{Rose};
 ghost use Rattle.fault_ports.specs.Output.{AppendsPrefix, Puts};
-ghost use Rattle.swmm_top.specs.Answers.{HasGiven, HasReported, HasCauses, ReadsToEnd};
+ghost use Rattle.swmm_top.specs.Answers.{GivesOutcome, ReportsOutcome, HasCauses, ReadsToEnd};
 ghost use Rattle.swmm_top.specs.CommandWords.{command_of, run_only, check_only};
 ghost use Rattle.swmm_top.specs.Input.{TakesFront, input_limit};
-ghost use Rattle.swmm_top.specs.Outcome.{Gives, input_outcome};
 
 use crate::command::{Command, read_words};
 use crate::fault::{Port, TopFault};
@@ -32,7 +31,7 @@ pub fn run_alone_top<S: Source, H: Source, W: Sink, K: Sink>(
     hot_out: &mut K,
 ) -> Result<Status, TopFault>
     // What it gives: the headline.
-    ensures outcome { Gives (run_only (command_of words.now)) (S.left inp.old) (H.left hot_in.old) (λ given. HasGiven given (W.held rpt.old) (W.held rpt.new) (K.held hot_out.old) (K.held hot_out.new) result) }
+    ensures outcome { GivesOutcome (run_only (command_of words.now)) (S.left inp.old) (H.left hot_in.old) (W.held rpt.old) (W.held rpt.new) (K.held hot_out.old) (K.held hot_out.new) result }
     ensures no_command { (result ≡ Ok Status.Usage) ↔ (run_only (command_of words.now) ≡ None) }
 
     // A fault has its cause in the port's count.
@@ -61,7 +60,7 @@ pub fn check_top<S: Source, W: Sink>(
     rpt: &mut W,
 ) -> Result<Status, TopFault>
     // What it gives: the headline. There is no hotstart to read or to write.
-    ensures outcome { Gives (check_only (command_of words.now)) (S.left inp.old) None (λ given. HasGiven given (W.held rpt.old) (W.held rpt.new) None None result) }
+    ensures outcome { GivesOutcome (check_only (command_of words.now)) (S.left inp.old) None (W.held rpt.old) (W.held rpt.new) None None result }
     ensures no_command { (result ≡ Ok Status.Usage) ↔ (check_only (command_of words.now) ≡ None) }
 
     // A fault has its cause in the port's count.
@@ -93,7 +92,7 @@ pub fn swmm_top<R: Threads + Wait + Sync, S: Source, H: Source, W: Sink, K: Sink
     _gate: &G,
 ) -> Result<Status, TopFault>
     // What it gives: the headline.
-    ensures outcome { Gives (command_of words.now) (S.left inp.old) (H.left hot_in.old) (λ given. HasGiven given (W.held rpt.old) (W.held rpt.new) (K.held hot_out.old) (K.held hot_out.new) result) }
+    ensures outcome { GivesOutcome (command_of words.now) (S.left inp.old) (H.left hot_in.old) (W.held rpt.old) (W.held rpt.new) (K.held hot_out.old) (K.held hot_out.new) result }
     ensures no_command { (result ≡ Ok Status.Usage) ↔ (command_of words.now ≡ None) }
 
     // A fault has its cause in the port's count.
@@ -120,7 +119,7 @@ fn run_input<S: Source, W: Sink>(
     inp: &mut S,
     rpt: &mut W,
 ) -> Result<Status, TopFault>
-    ensures outcome { IfSome (S.left inp.old) (λ input. HasReported (input_outcome input) (W.held rpt.old) (W.held rpt.new) result) }
+    ensures outcome { IfSome (S.left inp.old) (λ input. ReportsOutcome input (W.held rpt.old) (W.held rpt.new) result) }
     ensures no_usage { IfOk result (λ status. status ≡ Status.Usage → ⊥) }
     ensures read_input { IsErrOf result (TopFault.Read Port.Inp) → Rose (S.faults inp.old) (S.faults inp.new) }
     ensures write_report { IsErrOf result (TopFault.Write Port.Rpt) → Rose (W.faults rpt.old) (W.faults rpt.new) }

@@ -1,0 +1,3 @@
+pub mod TitleLemmas
+pub mod FaultLemmas
+pub mod MeaningLemmas

@@ -1,0 +1,5 @@
+pub mod Title
+pub mod OtherLines
+pub mod LineFaults
+pub mod Meaning
+pub mod Reading

@@ -1,0 +1,95 @@
+// Lines that no section reads.
+ghost use Rattle.std.specs.Prelude.{◌≡◌, [], OnOk};
+ghost use Rattle.std.specs.Bool.{⊤};
+ghost use Rattle.inp_lines.specs.Faults.{cut};
+ghost use Rattle.inp_lines.specs.Gather.{gather};
+ghost use Rattle.inp_lines.specs.Merge.{merged};
+ghost use Rattle.inp_reader.specs.OtherLines.{other_fault, other_line_fault, treated_fault, treatment_of};
+
+use inp_lines::{
+    Fault, Line, LineWalk, SectionName, is_too_long, merge_faults, section_of, walk_lines,
+};
+use net_types::{LineFault, List, OutOfMemory};
+use std::alloc::Global;
+
+/// The walk over lines that no section reads, which holds nothing.
+#[derive(Clone, Copy, Debug)]
+struct OtherLines;
+
+impl<'a> LineWalk<'a> for OtherLines {
+    ghost fault_of = { λ _ _ line. other_fault line };
+
+    ghost is_after = { λ _ _ _. ⊤ };
+
+    fn step(&mut self, _alloc: Global, line: &'a Line) -> Result<Option<Fault>, OutOfMemory> {
+        Ok(other_fault(line))
+    }
+}
+
+/// The fault of a line for its length, or for where it stands.
+fn other_fault(line: &Line) -> Option<Fault>
+    ensures { result ≡ other_fault line.now }
+{
+    if is_too_long(line) {
+        return Some(Fault {
+            number: 402,
+            place: line.tokens.as_slice().len(),
+        });
+    }
+    treated_fault(line.section, section_of(line.bytes.as_slice()).is_some())
+}
+
+/// The fault of a line by the section in which it stands, and by whether it is a section line.
+fn treated_fault(section: SectionName, names_section: bool) -> Option<Fault>
+    ensures { result ≡ treated_fault (treatment_of section) names_section }
+{
+    match section {
+        SectionName::Title
+        | SectionName::Options
+        | SectionName::Junctions
+        | SectionName::Outfalls
+        | SectionName::Conduits
+        | SectionName::XSections
+        | SectionName::Inflows => None,
+        SectionName::Report
+        | SectionName::Tags
+        | SectionName::Map
+        | SectionName::Coordinates
+        | SectionName::Vertices
+        | SectionName::Polygons
+        | SectionName::Symbols
+        | SectionName::Labels
+        | SectionName::Backdrop
+        | SectionName::Profiles => None,
+        SectionName::Before => Some(first_token(205)),
+        SectionName::Unknown => {
+            if names_section {
+                Some(first_token(205))
+            } else {
+                None
+            }
+        }
+        _ => Some(first_token(401)),
+    }
+}
+
+/// A fault at the first token.
+fn first_token(number: u32) -> Fault
+    ensures { result ≡ record { number = number; place = 0 } }
+{
+    Fault { number, place: 0 }
+}
+
+/// Merges the faults of lines that no section reads.
+pub(crate) fn read_others(
+    alloc: Global,
+    lines: &List<Line>,
+    faults: &mut List<LineFault>,
+) -> Result<(), OutOfMemory>
+    ensures { OnOk result (faults.new ≡ cut (merged faults.old (cut (gather other_line_fault [] lines.now)))) }
+{
+    let mut mine = List::new(alloc);
+    walk_lines(alloc, &mut OtherLines, lines, &mut mine)?;
+    merge_faults(alloc, faults, &mine)?;
+    Ok(())
+}
