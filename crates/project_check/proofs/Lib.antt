@@ -1,0 +1,3 @@
+pub mod ReachLemmas
+pub mod ProfileLemmas
+pub mod FaultLemmas

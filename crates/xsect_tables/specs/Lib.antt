@@ -1,0 +1,5 @@
+pub mod Sums
+pub mod Sections
+pub mod SectionTable
+pub mod LookUps
+pub mod NormalFlow

@@ -1,0 +1,101 @@
+-- The table of a cross-section: 201 grid heights, and what lies below each (this project's profile).
+use Rattle.std.specs.Prelude.{◌≡◌, ℕ, ◌+◌, ◌^◌, ◌<◌, ◌≤◌, Bool, List, map, slice_index_or, ℤ, pos, ◌+ℤ◌, ◌-ℤ◌, ◌*ℤ◌, ◌≤ℤ◌}
+use Rattle.std.specs.List.{range_with_len}
+use Rattle.fixed_num.specs.Ranges.{IsBetween}
+use Rattle.fixed_num.specs.Roots.{root2_of}
+use Rattle.fixed_num.specs.Rounding.{quo_of}
+use Rattle.net_types.specs.declared.network.Section.{Section}
+use Rattle.xsect_tables.specs.Sections.{width_at, is_closed}
+use Rattle.xsect_tables.specs.Sums.{sum_below}
+
+-- four rows of 201 numbers: grid heights (µm), areas below them (mm²), widths at them and wetted perimeters
+-- below them (µm); with the number of barrels, and whether the section is closed at the top
+pub record SectionTable : Type 0 where
+  pub heights : List ℤ
+  pub areas : List ℤ
+  pub widths : List ℤ
+  pub perimeters : List ℤ
+  pub barrels : ℤ
+  pub closed : Bool
+
+-- the numbers of a row by their places
+abbrev pub entry : List ℤ → ℕ → ℤ
+entry row i = slice_index_or row i (pos 0)
+
+-- the row with f i at place i
+unfoldable pub row_of : (ℕ → ℤ) → List ℤ
+row_of f = map f (range_with_len 0 201)
+
+-- grid height i of a section: i of 200 equal parts of the full height
+unfoldable pub grid_height : (full : ℤ) → ℕ → ℤ
+grid_height full i = quo_of (pos i *ℤ full) (pos 200)
+
+-- the area, in µm², of the strip between grid heights i and i + 1: its height by the width in its middle
+unfoldable pub strip_area : Section → ℕ → ℤ
+strip_area section i =
+    let low = grid_height section.full i in
+    let high = grid_height section.full (i + 1) in
+    width_at section (quo_of (low +ℤ high) (pos 2)) *ℤ (high -ℤ low)
+
+-- the length of two sides that rise and spread so far together
+unfoldable pub sides_of : (rise spread : ℤ) → ℤ
+sides_of rise spread = root2_of (pos 4 *ℤ (rise *ℤ rise) +ℤ spread *ℤ spread)
+
+-- the length of the two sides of that strip
+unfoldable pub strip_sides : Section → ℕ → ℤ
+strip_sides section i =
+    let low = grid_height section.full i in
+    let high = grid_height section.full (i + 1) in
+    sides_of (high -ℤ low) (width_at section high -ℤ width_at section low)
+
+-- the width at grid height i
+unfoldable pub grid_width : Section → ℕ → ℤ
+grid_width section i = width_at section (grid_height section.full i)
+
+-- the area below grid height i: the sum of the strips below it, in mm²
+unfoldable pub grid_area : Section → ℕ → ℤ
+grid_area section i = quo_of (sum_below (strip_area section) i) (pos 1_000_000)
+
+-- the wetted perimeter below grid height i: the bottom and the sides of the strips below it
+unfoldable pub grid_perimeter : Section → ℕ → ℤ
+grid_perimeter section i = grid_width section 0 +ℤ sum_below (strip_sides section) i
+
+-- the table of an open section
+unfoldable pub table_of : Section → SectionTable
+table_of section = record {
+  heights = row_of (grid_height section.full);
+  areas = row_of (grid_area section);
+  widths = row_of (grid_width section);
+  perimeters = row_of (grid_perimeter section);
+  barrels = section.barrels;
+  closed = is_closed section.shape;
+}
+
+-- the full height, and the area below it
+abbrev pub full_height : SectionTable → ℤ
+full_height table = entry table.heights 200
+
+abbrev pub full_area : SectionTable → ℤ
+full_area table = entry table.areas 200
+
+-- the heights are the grid of a full height of 1,000 to 10^9 µm
+pub record IsGrid (heights : List ℤ) : Type 0 where
+  pub full : IsBetween (pos 1_000) (entry heights 200) (pos (10 ^ 9))
+  pub each : (i : ℕ) → i ≤ 200 → entry heights i ≡ grid_height (entry heights 200) i
+
+-- the first 201 numbers of a row lie in a to b
+pub record RowBetween (a : ℤ) (row : List ℤ) (b : ℤ) : Type 0 where
+  pub each : (i : ℕ) → i ≤ 200 → IsBetween a (entry row i) b
+
+-- what holds of every table: areas begin at 0 and do not fall; widths are at most 10^12 µm, perimeters at most 10^13 µm; the
+-- full area is at most that of a strip of a metre's width along the shortest perimeter; the barrels are 1 to 100
+pub record IsTable (table : SectionTable) : Type 0 where
+  pub heights : IsGrid table.heights
+  pub empty : entry table.areas 0 ≡ pos 0
+  pub areas : (i : ℕ) → i < 200 → entry table.areas i ≤ℤ entry table.areas (i + 1)
+  pub most : full_area table ≤ℤ pos (10 ^ 15)
+  pub widths : RowBetween (pos 0) table.widths (pos (10 ^ 12))
+  pub bottom : pos 0 ≤ℤ entry table.perimeters 0
+  pub perimeters : RowBetween (entry table.perimeters 0) table.perimeters (pos (10 ^ 13))
+  pub barrels : IsBetween (pos 1) table.barrels (pos 100)
+  pub wet : full_area table ≤ℤ (pos 1_000 *ℤ entry table.perimeters 0)

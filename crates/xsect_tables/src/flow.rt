@@ -1,0 +1,172 @@
+// Celerity, uniform flow, and the depths at which a flow is critical or normal.
+ghost use Rattle.std.specs.Prelude.{◌≡◌, ℕ, ◌*◌, ◌^◌, ◌≤◌, ℤ, pos, ◌*ℤ◌, ◌≤ℤ◌};
+ghost use Rattle.fixed_num.specs.Ranges.{IsBetween, IsWithin};
+ghost use Rattle.xsect_tables.specs.LookUps.{ratio_of, radius_of};
+ghost use Rattle.xsect_tables.specs.SectionTable.{full_height};
+ghost use Rattle.xsect_tables.specs.NormalFlow.{celerity_of, slope_of, speed_of, discharge_of, uniform_of, normal_flow_of, is_carried as carried_at, is_subcritical as subcritical_at, critical_of, normal_of};
+
+use crate::table::Table;
+use fixed_num::{quo, root2, root3};
+
+/// The celerity of a shallow wave over an area in mm² of a width in µm, in µm/s.
+///
+/// Source: Reference Manual volume II, chapter 3, in whole numbers by this project's profile.
+pub fn celerity(area: i64, width: i64) -> i64
+    requires area { IsBetween (pos 0) area (pos (10 ^ 15)) }
+    requires width { IsBetween (pos 0) width (pos (10 ^ 12)) }
+    ensures value { result ≡ celerity_of area width }
+    ensures range { IsBetween (pos 0) result (pos (10 ^ 15)) }
+{
+    root2(9_814_560 * quo(area as i128 * 1_000_000, width.max(1) as i128)) as i64
+}
+
+// An area in mm² over a wetted perimeter in µm.
+fn ratio(area: i64, perimeter: i64) -> i64
+    requires area { IsBetween (pos 0) area (pos (10 ^ 15)) }
+    requires perimeter { IsBetween (pos 0) perimeter (pos (10 ^ 13)) }
+    requires wet { area ≤ℤ (pos 1_000 *ℤ perimeter) }
+    ensures value { result ≡ ratio_of area perimeter }
+    ensures range { IsBetween (pos 0) result (pos (10 ^ 9)) }
+{
+    quo(area as i128 * 1_000_000, perimeter.max(1) as i128) as i64
+}
+
+// The root of the slope of a drop over a length, in millionths.
+fn slope(drop: i64, length: i64) -> i64
+    requires drop { IsWithin (4 * 10 ^ 10) drop }
+    requires length { IsBetween (pos 10_000) length (pos (10 ^ 11)) }
+    ensures value { result ≡ slope_of drop length }
+    ensures range { IsBetween (pos 0) result (pos (2 * 10 ^ 9)) }
+{
+    root2(quo(drop.max(305) as i128 * 1_000_000_000_000, length as i128)) as i64
+}
+
+// The speed of uniform flow, in µm/s.
+fn speed(radius: i64, slope6: i64, n6: i64) -> i64
+    requires radius { IsBetween (pos 0) radius (pos (10 ^ 9)) }
+    requires slope { IsBetween (pos 0) slope6 (pos (2 * 10 ^ 9)) }
+    requires roughness { IsBetween (pos 1_000) n6 (pos (10 ^ 6)) }
+    ensures value { result ≡ speed_of radius slope6 n6 }
+    ensures range { IsBetween (pos 0) result (pos (10 ^ 15)) }
+{
+    let power = root3(radius as i128 * radius as i128 * 1_000_000_000);
+    quo(power * slope6 as i128, 10 * n6 as i128) as i64
+}
+
+// A speed over an area, in cm³/s.
+fn discharge(speed: i64, area: i64) -> i128
+    requires speed { IsBetween (pos 0) speed (pos (10 ^ 15)) }
+    requires area { IsBetween (pos 0) area (pos (10 ^ 15)) }
+    ensures value { result ≡ discharge_of speed area }
+    ensures range { IsBetween (pos 0) result (pos (10 ^ 24)) }
+{
+    quo(speed as i128 * area as i128, 1_000_000)
+}
+
+impl Table {
+    /// The hydraulic radius at a depth, both in µm.
+    ///
+    /// Source: this project's profile.
+    pub fn radius(&self, y: i64) -> i64
+        ensures value { result ≡ radius_of self.now y }
+        ensures range { IsBetween (pos 0) result (pos (10 ^ 9)) }
+    {
+        ratio(self.area(y).min(self.full_area()), self.perimeter(y))
+    }
+
+    /// The flow in cm³/s of uniform flow at a depth `y` in µm, in a conduit of roughness `n6` in millionths that falls by
+    /// `drop` over `length`, both in µm. A drop below 305 µm counts as 305 µm.
+    ///
+    /// Source: Manning's formula, in whole numbers by this project's profile.
+    pub fn normal_flow(&self, y: i64, n6: i64, drop: i64, length: i64) -> i128
+        requires roughness { IsBetween (pos 1_000) n6 (pos (10 ^ 6)) }
+        requires drop { IsWithin (4 * 10 ^ 10) drop }
+        requires length { IsBetween (pos 10_000) length (pos (10 ^ 11)) }
+        ensures value { result ≡ normal_flow_of self.now y n6 drop length }
+        ensures range { IsBetween (pos 0) result (pos (10 ^ 24)) }
+    {
+        self.uniform(y, n6, slope(drop, length))
+    }
+
+    // The uniform flow at a depth, in cm³/s.
+    fn uniform(&self, y: i64, n6: i64, slope6: i64) -> i128
+        requires roughness { IsBetween (pos 1_000) n6 (pos (10 ^ 6)) }
+        requires slope { IsBetween (pos 0) slope6 (pos (2 * 10 ^ 9)) }
+        ensures value { result ≡ uniform_of self.now y n6 slope6 }
+        ensures range { IsBetween (pos 0) result (pos (10 ^ 24)) }
+    {
+        let speed = speed(self.radius(y), slope6, n6);
+        discharge(speed, self.area(y))
+    }
+
+    /// The critical depth of a flow of `q` cm³/s, in µm: 0 for no flow, else the least grid height at which the flow is no
+    /// faster than a wave, and the full height where it is faster at all lower ones.
+    ///
+    /// Source: Reference Manual volume II, chapter 3, on the grid of this project's profile.
+    pub fn critical(&self, q: i64) -> i64
+        ensures value { result ≡ critical_of self.now q }
+        ensures range { IsBetween (pos 0) result (full_height self.now) }
+    {
+        let full = self.full_height();
+        if q <= 0 {
+            return 0;
+        }
+        for i in 0..200 {
+            if self.is_subcritical(q, i) {
+                return self.grid_height(i);
+            }
+        }
+        full
+    }
+
+    // Whether a flow through the area below grid height `i` is no faster than a wave there; not at the bottom.
+    fn is_subcritical(&self, q: i64, i: usize) -> bool
+        requires { i ≤ 200 }
+        ensures { result ≡ subcritical_at self.now q i }
+    {
+        if i == 0 {
+            return false;
+        }
+        let area = self.grid_area(i);
+        if area <= 0 {
+            return false;
+        }
+        let width = self.width(self.grid_height(i));
+        quo(q as i128 * 1_000_000, area as i128) <= celerity(area, width) as i128
+    }
+
+    /// The normal depth of a flow of `q` cm³/s, in µm, in a conduit of roughness `n6` in millionths that falls by `drop` over
+    /// `length`, both in µm: 0 for no flow, else the least grid height at which uniform flow is at least `q`, and the full
+    /// height where it is less at all lower ones. A drop below 305 µm counts as 305 µm.
+    ///
+    /// Source: Manning's formula, on the grid of this project's profile.
+    pub fn normal(&self, q: i64, n6: i64, drop: i64, length: i64) -> i64
+        requires roughness { IsBetween (pos 1_000) n6 (pos (10 ^ 6)) }
+        requires drop { IsWithin (4 * 10 ^ 10) drop }
+        requires length { IsBetween (pos 10_000) length (pos (10 ^ 11)) }
+        ensures value { result ≡ normal_of self.now q n6 drop length }
+        ensures range { IsBetween (pos 0) result (full_height self.now) }
+    {
+        let full = self.full_height();
+        if q <= 0 {
+            return 0;
+        }
+        let slope6 = slope(drop, length);
+        for i in 0..200 {
+            if self.is_carried(q, n6, slope6, i) {
+                return self.grid_height(i);
+            }
+        }
+        full
+    }
+
+    // Whether uniform flow at grid height `i` is at least `q`.
+    fn is_carried(&self, q: i64, n6: i64, slope6: i64, i: usize) -> bool
+        requires roughness { IsBetween (pos 1_000) n6 (pos (10 ^ 6)) }
+        requires slope { IsBetween (pos 0) slope6 (pos (2 * 10 ^ 9)) }
+        requires place { i ≤ 200 }
+        ensures { result ≡ carried_at self.now q n6 slope6 i }
+    {
+        q as i128 <= self.uniform(self.grid_height(i), n6, slope6)
+    }
+}
