@@ -1,11 +1,13 @@
 -- The ranges of the formulas of flow.
 use Rattle.std.proofs.Common.{ℕ, ◌*◌, ◌^◌, ◌≤◌, ℤ, pos, ◌*ℤ◌, ◌≤ℤ◌, unsigned_abs, arith}
-use Rattle.std.specs.Int.{int_max}
+use Rattle.std.specs.Int.{int_max, int_min}
 use Rattle.std.proofs.lemmas.Int.{ints, clamps}
 use Rattle.fixed_num.specs.Ranges.{IsBetween, IsWithin}
-use Rattle.fixed_num.proofs.Bounds.{between_number, between_mul, between_quo_by, between_root2, between_root3, between_up, quo_of-abs, quo_of-from_zero, le_number}
-use Rattle.xsect_tables.specs.NormalFlow.{celerity_of, slope_of, speed_of, discharge_of}
-use Rattle.xsect_tables.specs.LookUps.{ratio_of}
+use Rattle.fixed_num.proofs.Bounds.{between_number, between_min, between_mul, between_quo_by, between_root2, between_root3, between_up, quo_of-abs, quo_of-from_zero, le_number}
+use Rattle.xsect_tables.specs.NormalFlow.{celerity_of, slope_of, speed_of, discharge_of, uniform_of, normal_flow_of}
+use Rattle.xsect_tables.specs.LookUps.{ratio_of, radius_of, area_of, perimeter_of}
+use Rattle.xsect_tables.specs.SectionTable.{SectionTable, IsTable, full_area}
+use Rattle.xsect_tables.proofs.TableLemmas.{area_small, grid_area-between, area-wet, perimeter_of-between}
 
 -- the greater of a number and a least one
 pub at_least : (k : ℕ) {m : ℕ} {x : ℤ} → IsBetween (pos 0) x (pos m) → k ≤ m → IsBetween (pos k) (int_max x (pos k)) (pos m)
@@ -45,3 +47,21 @@ speed-between r s n =
 pub discharge-between : {speed area : ℤ} → IsBetween (pos 0) speed (pos (10 ^ 15)) → IsBetween (pos 0) area (pos (10 ^ 15)) → IsBetween (pos 0) (discharge_of speed area) (pos (10 ^ 24))
 unfolding discharge_of
 discharge-between s a = between_up (between_quo_by {y = pos 1_000_000} 1_000_000 (between_mul s a) (le_number tt) tt) tt tt
+
+-- ---- the same of a table
+pub radius_of-between : {table : SectionTable} (y : ℤ) → IsTable table → IsBetween (pos 0) (radius_of table y) (pos (10 ^ 9))
+unfolding radius_of
+radius_of-between {table = table} y t =
+    let area = area_small y t in
+    let full = grid_area-between t 200 (omega arith) in
+    let wet = area-wet y t in
+    let least : int_min (area_of table y) (full_area table) ≤ℤ (pos 1_000 *ℤ perimeter_of table y) = omega (arith, ints, clamps, wet) in
+    ratio-between (between_min area full) (perimeter_of-between y t) least
+
+pub uniform_of-between : {table : SectionTable} {n6 slope6 : ℤ} (y : ℤ) → IsTable table → IsBetween (pos 1_000) n6 (pos (10 ^ 6)) → IsBetween (pos 0) slope6 (pos (2 * 10 ^ 9)) → IsBetween (pos 0) (uniform_of table y n6 slope6) (pos (10 ^ 24))
+unfolding uniform_of
+uniform_of-between y t n s = discharge-between (speed-between (radius_of-between y t) s n) (area_small y t)
+
+pub normal_flow_of-between : {table : SectionTable} {n6 drop length : ℤ} (y : ℤ) → IsTable table → IsBetween (pos 1_000) n6 (pos (10 ^ 6)) → IsWithin (4 * 10 ^ 10) drop → IsBetween (pos 10_000) length (pos (10 ^ 11)) → IsBetween (pos 0) (normal_flow_of table y n6 drop length) (pos (10 ^ 24))
+unfolding normal_flow_of
+normal_flow_of-between y t n d l = uniform_of-between y t n (slope-between d l)

@@ -1,11 +1,12 @@
 -- The strip in which a depth lies, and the range of a row at a depth.
-use Rattle.std.proofs.Common.{◌≡◌, ℕ, zero, suc, ◌+◌, ◌*◌, ◌/◌, ◌^◌, ◌<◌, ◌≤◌, Bool, true, false, cond, leb, List, ℤ, pos, negsuc, ◌≤ℤ◌, int_le, unsigned_abs, sym, refl, ap, subst, ◌∙◌, inl, inr, arith}
+use Rattle.std.proofs.Common.{◌≡◌, ℕ, zero, suc, ◌+◌, ◌*◌, ◌/◌, ◌^◌, ◌<◌, ◌≤◌, Bool, true, false, cond, leb, List, ℤ, pos, negsuc, ◌≤ℤ◌, int_le, unsigned_abs, sym, refl, ap, subst, ◌∙◌, inl, inr, arith, ◌-ℤ◌, ◌<ℤ◌}
 use Rattle.std.proofs.lemmas.Bool.{cases_lt, le-leb, lt-leb, leb-true, leb-false}
 use Rattle.std.proofs.lemmas.Nat.{mul-le, div-add-mod'}
 use Rattle.std.proofs.lemmas.Int.{ints}
+use Rattle.fixed_num.specs.Interpolation.{lerp_of}
 use Rattle.fixed_num.specs.Ranges.{IsBetween, cut_of}
 use Rattle.fixed_num.specs.Roots.{greatest}
-use Rattle.fixed_num.proofs.Bounds.{between_lerp, between_cut}
+use Rattle.fixed_num.proofs.Bounds.{between_lerp, between_cut, quo_of-exact, cut_of-most}
 use Rattle.xsect_tables.specs.SectionTable.{entry, grid_height, IsGrid, RowBetween}
 use Rattle.xsect_tables.specs.LookUps.{IsStrip}
 use Rattle.xsect_tables.specs.LookUps.{strip_at, row_at}
@@ -184,3 +185,26 @@ row_at-between {heights = heights} {row = row} y g r =
     let depth = cut_of y (pos 0) (entry heights 200) in
     let s : IsStrip heights depth (strip_at heights depth) = strip_found g (depth_within y g) in
     between_lerp (r.each (strip_at heights depth) (omega (arith, s.within))) (r.each (strip_at heights depth + 1) (omega (arith, s.within))) (record { from = s.from; to = s.to })
+
+-- ---- a row at the full height and above it
+lerp-end : (x0 y0 x1 y1 : ℤ) → x0 <ℤ x1 → lerp_of x0 y0 x1 y1 x1 ≡ y1
+unfolding lerp_of
+lerp-end x0 y0 x1 y1 h =
+    let e = quo_of-exact (y1 -ℤ y0) (x1 -ℤ x0) (omega (arith, ints, h)) in
+    omega (arith, ints, e)
+
+top_strip : {heights : List ℤ} → IsGrid heights → strip_at heights (entry heights 200) ≡ 199
+top_strip {heights = heights} g =
+    let f = full_number g in
+    let low : grid f.0 199 ≤ f.0 = omega (arith, grid-mono f.0 199 200 (omega arith), grid-last f.0) in
+    rw f.1 (strip_is f.0 f.0 199 g f.1 (omega arith) low (λ h. absurd (omega (arith, h))))
+
+pub row_at-top : {heights : List ℤ} (row : List ℤ) {y : ℤ} → IsGrid heights → entry heights 200 ≤ℤ y → row_at heights row y ≡ entry row 200
+unfolding row_at
+row_at-top {heights = heights} row {y = y} g h =
+    let least : pos 0 ≤ℤ entry heights 200 = omega (arith, ints, g.full.from) in
+    let top = cut_of-most y (pos 0) (entry heights 200) h least in
+    let strip = top_strip g in
+    let inside : IsBetween (pos 0) (entry heights 200) (entry heights 200) = record { from = least; to = omega (arith, ints) } in
+    let around : IsStrip heights (entry heights 200) 199 = subst (IsStrip heights (entry heights 200)) strip (strip_found g inside) in
+    rw (top, strip) (lerp-end (entry heights 199) (entry row 199) (entry heights 200) (entry row 200) around.apart)

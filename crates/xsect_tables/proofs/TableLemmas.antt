@@ -10,7 +10,7 @@ use Rattle.net_types.specs.declared.network.Section.{Section}
 use Rattle.net_types.specs.declared.network.Shape.{Shape}
 use Rattle.net_types.specs.declared.network.Shape.TheVariants.{RectOpen, RectClosed, Trapezoidal, Triangular, Circular}
 use Rattle.xsect_tables.specs.Sections.{IsSection, IsRectOpen, HasSizes, width_at, shape_width}
-use Rattle.xsect_tables.specs.SectionTable.{SectionTable, entry, row_of, table_of, full_area, grid_height, grid_width, grid_area, grid_perimeter, strip_area, strip_sides, RowBetween, IsTable}
+use Rattle.xsect_tables.specs.SectionTable.{SectionTable, entry, row_of, table_of, full_area, full_height, grid_height, grid_width, grid_area, grid_perimeter, strip_area, strip_sides, RowBetween, IsTable}
 use Rattle.xsect_tables.specs.Sums.{sum_below}
 use Rattle.xsect_tables.specs.LookUps.{area_of, width_of, perimeter_of}
 use Rattle.xsect_tables.proofs.LookUpLemmas.{row_at-between}
@@ -141,6 +141,12 @@ table_is section s open_shape =
       barrels = s.barrels;
       wet = rw (most, bottom) (area_wet r);
     }
+
+pub full_height-table_of : (section : Section) → IsSection section → full_height (table_of section) ≡ section.full
+unfolding table_of
+full_height-table_of section s =
+    let f = full_is s.full in
+    entry-row_of (grid_height section.full) 200 (omega arith) ∙ ap (λ (z : ℤ). grid_height z 200) f.1 ∙ grid_is f.0 200 ∙ ap pos (grid-last f.0) ∙ sym f.1
 
 -- ---- rows that do not fall
 rises : (row : List ℤ) → ((i : ℕ) → i < 200 → entry row i ≤ℤ entry row (i + 1)) → (i k : ℕ) → i ≤ k → k ≤ 200 → entry row i ≤ℤ entry row k

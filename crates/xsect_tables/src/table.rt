@@ -91,6 +91,7 @@ impl Table {
         ensures value { result ≡ area_of self.now y }
         ensures range { IsBetween (pos 0) result (area_of_table self.now) }
         ensures small { IsBetween (pos 0) result (pos (10 ^ 15)) }
+        ensures full { height_of_table self.now ≤ℤ y → result ≡ area_of_table self.now }
         // An area is no greater than a metre's width along the wetted perimeter.
         ensures wet { result ≤ℤ (pos 1_000 *ℤ perimeter_of self.now y) }
     {

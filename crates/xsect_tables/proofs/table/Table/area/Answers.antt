@@ -4,6 +4,7 @@ use Rattle.std.proofs.lemmas.Int.{to_z-of_z}
 use Rattle.xsect_tables.specs.LookUps.{area_of}
 use Rattle.xsect_tables.specs.SectionTable.{SectionTable, IsTable}
 use Rattle.xsect_tables.proofs.TableLemmas.{area_between, area_small, area-wet}
+use Rattle.xsect_tables.proofs.LookUpLemmas.{row_at-top}
 use Rattle.xsect_tables.proofs.table.Table.area.Goals as goal
 use Rattle.xsect_tables.proofs.table.Table.area.Goals.{After-row_at}
 
@@ -33,3 +34,10 @@ returns-clause-small c =
     let fits : FitsSigned w64 c.row_at.result = search rules in
     let small = area_small c.args.y (subst IsTable c.self.view_is c.self.invariant) in
     simp (to_z-of_z, fits) (rw (value c) small)
+
+pub returns-clause-full : goal.returns-clause-full
+unfolding area_of
+returns-clause-full c = λ above.
+    let fits : FitsSigned w64 c.row_at.result = search rules in
+    let table = subst IsTable c.self.view_is c.self.invariant in
+    simp (to_z-of_z, fits) (value c ∙ row_at-top c.args.self.now.areas table.heights above)
