@@ -1,6 +1,7 @@
 -- What lines without a fault mean.
-use Rattle.std.proofs.Common.{◌≡◌, ◌++◌, ◌∷◌, [], ℕ, true, false, Bool, cond, nat_lt, length, List, Option, Some, None, Result, Ok, Err, refl, ap, sym, ◌∙◌, subst}
+use Rattle.std.proofs.Common.{◌≡◌, ◌++◌, ◌∷◌, [], ℕ, true, false, Bool, cond, nat_lt, length, List, Option, Some, None, Result, Ok, Err, refl, ap, sym, ◌∙◌, subst, ◌≤◌, arith}
 use Rattle.std.specs.List.{All, AllZip, filter}
+use Rattle.std.proofs.lemmas.Bool.Decides.{nat_tests}
 use Rattle.std.proofs.lemmas.List.Elements.{All-nil, All-cons}
 use Rattle.net_types.specs.declared.inflows.Inflow.{Inflow}
 use Rattle.net_types.specs.declared.network.Link.{Link}
@@ -55,20 +56,20 @@ means_unique lines p q a b =
     let rules = a.no_rules ∙ sym b.no_rules in
     λ i. record { title = title i; warnings = warnings i; options = options i; gages = gages i; subs = subs i; nodes = objects.0 i; links = links i; curves = curves i; series = series i; patterns = patterns i; inflows = objects.2 i; dry = dry i; rules = rules i }
 
--- a line that gives a link has its name, which is new
-name_first : (tokens : List (List ℕ)) → nat_lt (length tokens) 7 ≡ false → first_token tokens ≡ Some (token_at tokens 0)
-name_first [] h = cc
-name_first (token ∷ tokens) h = refl
+-- a line that gives a record with its items has its name, which is new
+name_first : (least : ℕ) (tokens : List (List ℕ)) → 1 ≤ least → nat_lt (length tokens) least ≡ false → first_token tokens ≡ Some (token_at tokens 0)
+name_first least [] some h = let none : least ≤ 0 = grind (arith, nat_tests) in absurd (omega (arith, some, none))
+name_first least (token ∷ tokens) some h = refl
 
-conduit_named : {A : Type 0} (line : Line) (standing : Naming) (make : A → Link) → ((items : A) → (make items).name ≡ token_at line.tokens 0) → (rest : Result A Fault) (long short : Bool) → nat_lt (length line.tokens) 7 ≡ short
-    → Named (λ (link : Link). link.name) (cond long None (cond short None (first_token line.tokens))) standing
+pub line_named : {A R : Type 0} (name_in : R → List ℕ) (least : ℕ) (line : Line) (standing : Naming) (make : A → R) → 1 ≤ least → ((items : A) → name_in (make items) ≡ token_at line.tokens 0) → (rest : Result A Fault) (long short : Bool) → nat_lt (length line.tokens) least ≡ short
+    → Named name_in (cond long None (cond short None (first_token line.tokens))) standing
     (cond long Other (reading_from (and_then (cond short (Err (too_few_of line.tokens)) (and_then (new_name_of standing) (λ _. rest))) (λ items. Ok (make items)))))
-conduit_named line standing make name rest true short e = refl
-conduit_named line standing make name rest false true e = tt
-conduit_named line First make name (Ok items) false false e = (name_first line.tokens e ∙ ap (λ n. Some n) (sym (name items)), refl)
-conduit_named line First make name (Err fault) false false e = tt
-conduit_named line Repeated make name rest false false e = tt
-conduit_named line OverLimit make name rest false false e = tt
+line_named name_in least line standing make some name rest true short e = refl
+line_named name_in least line standing make some name rest false true e = tt
+line_named name_in least line First make some name (Ok items) false false e = (name_first least line.tokens some e ∙ ap (λ n. Some n) (sym (name items)), refl)
+line_named name_in least line First make some name (Err fault) false false e = tt
+line_named name_in least line Repeated make some name rest false false e = tt
+line_named name_in least line OverLimit make some name rest false false e = tt
 
 link_named : (units : FlowUnits) (nodes : List ℕ → Option ℕ) (standing : Naming) (line : Line) → Named (λ (link : Link). link.name) (link_name line) standing (link_reading units nodes standing line)
 unfolding conduit_of
@@ -76,7 +77,7 @@ link_named units nodes standing line = at line.«section» line.number line.toke
   at : (s : SectionName) (number : ℕ) (tokens : List (List ℕ)) (bytes : List ℕ) → let here : Line = record { number = number; «section» = s; tokens = tokens; bytes = bytes } in Named (λ (link : Link). link.name) (link_name here) standing (link_reading units nodes standing here)
   at section.Conduits number tokens bytes =
       let here : Line = record { number = number; «section» = section.Conduits; tokens = tokens; bytes = bytes } in
-      conduit_named here standing (link_from here) (λ items. refl) _ (is_long here) (nat_lt (length tokens) 7) refl
+      line_named (λ (link : Link). link.name) 7 here standing (link_from here) (omega arith) (λ items. refl) _ (is_long here) (nat_lt (length tokens) 7) refl
   at _ number tokens bytes = refl
 
 no_section : (units : FlowUnits) (nodes : List ℕ → Option ℕ) (lines : List Line) (links : List Link) → AllZip (λ line link. IsConduit units nodes line.tokens link) lines links → All (λ (link : Link). link.«section» ≡ None) links
@@ -95,6 +96,7 @@ links_bare units lines none are = record {
 -- where no line is at fault, none is as an object or as a cross-section
 pub record NoFaults (units : FlowUnits) (lines : List Line) : Type 0 where
   pub objects : object_faults units lines ≡ []
+  pub nodes : gather (node_fault units) [] lines ≡ []
   pub links : gather (link_fault units lines) [] lines ≡ []
   pub sections : gather (section_fault units lines) [] lines ≡ []
 
@@ -109,7 +111,8 @@ no_faults lines h =
     let two = both_none (both_of options objects) sections [] lines read in
     let one = both_none options objects [] lines two.0 in
     let parts = both_none (both_of (node_fault units) (link_fault units lines)) (inflow_fault units lines) [] lines one.1 in
-    record { objects = one.1; links = (both_none (node_fault units) (link_fault units lines) [] lines parts.0).1; sections = two.1 }
+    let named = both_none (node_fault units) (link_fault units lines) [] lines parts.0 in
+    record { objects = one.1; nodes = named.0; links = named.1; sections = two.1 }
 
 pub options_have_units : (lines : List Line) → (options_of lines).units ≡ units_of lines
 unfolding options_of options_by

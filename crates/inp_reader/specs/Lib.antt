@@ -3,3 +3,4 @@ pub mod OtherLines
 pub mod LineFaults
 pub mod Meaning
 pub mod Reading
+pub mod Soundness

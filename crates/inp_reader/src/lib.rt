@@ -3,7 +3,8 @@
 //! `read_project` splits an input into lines, and lets the crates of the sections read them. It answers with the first
 //! hundred faults exactly where some line is at fault, and else with the project that the lines mean (`ReadsAs` in
 //! `specs/Reading`). Which fault a line has is `specs/LineFaults`, and what lines mean is `specs/Meaning`;
-//! `lines_have_one_meaning` is the law that they mean no two projects.
+//! `lines_have_one_meaning` is the law that they mean no two projects. What those who compute with a project may rely
+//! on, its ranges and that its numbers name objects of it, is `specs/Soundness`.
 #![tactic(auto)]
 
 mod laws;

@@ -1,17 +1,10 @@
 // The lines of an input as a project.
-ghost use Rattle.std.specs.Prelude.{◌≡◌, ◌≤◌, ◌++◌, [], length, IfOk, OnOk};
+ghost use Rattle.std.specs.Prelude.{◌≡◌, [], IfOk, OnOk};
 ghost use Rattle.inp_lines.specs.Faults.{cut};
-ghost use Rattle.inp_lines.specs.Gather.{gather};
-ghost use Rattle.inp_lines.specs.Merge.{merged};
 ghost use Rattle.inp_lines.specs.Order.{Rise};
-ghost use Rattle.inp_objects.specs.Meaning.{MeansObjects};
-ghost use Rattle.inp_objects.specs.Records.{nodes_of, links_of, inflows_of, object_faults};
-ghost use Rattle.inp_options.specs.OptionLines.{option_fault};
-ghost use Rattle.inp_options.specs.Options.{units_of, options_of};
-ghost use Rattle.inp_options.specs.Warnings.{warnings_of};
 ghost use Rattle.inp_reader.specs.LineFaults.{line_faults};
 ghost use Rattle.inp_reader.specs.Meaning.{Means};
-ghost use Rattle.inp_reader.specs.Title.{title_of};
+ghost use Rattle.inp_reader.specs.Soundness.{IsSound};
 
 use crate::others::read_others;
 use crate::title::read_title;
@@ -32,6 +25,7 @@ pub(crate) fn read_lines(
     requires none { faults.old ≡ [] }
     ensures faults { OnOk result (faults.new ≡ cut (line_faults lines.now)) }
     ensures project { IfOk result (λ project. line_faults lines.now ≡ [] → Means lines.now project) }
+    ensures sound { IfOk result (λ project. line_faults lines.now ≡ [] → IsSound project) }
 {
     let (options, warnings) = read_options(alloc, lines, faults)?;
     let title = read_title(alloc, lines)?;

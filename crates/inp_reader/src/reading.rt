@@ -1,15 +1,15 @@
 // A whole input.
-ghost use Rattle.std.specs.Prelude.{◌≡◌, ◌≢◌, ◌≤◌, [], length, IfOk, List as Sequence};
+ghost use Rattle.std.specs.Prelude.{◌≡◌, ◌≤◌, [], length, IfOk, List as Sequence};
 ghost use Rattle.inp_lines.specs.declared.line.Line.{Line as DataLine};
 ghost use Rattle.inp_lines.specs.Faults.{cut};
 ghost use Rattle.inp_lines.specs.Lines.{lines_of};
-ghost use Rattle.inp_lines.specs.Order.{Rise};
 ghost use Rattle.inp_reader.specs.LineFaults.{line_faults};
 ghost use Rattle.inp_reader.specs.Meaning.{Means};
 ghost use Rattle.inp_reader.specs.Reading.{ReadsAs};
+ghost use Rattle.inp_reader.specs.Soundness.{AcceptsSound, IsSound};
 
 use crate::project::read_lines;
-use inp_lines::{Line, split_lines};
+use inp_lines::split_lines;
 use net_types::{LineFault, List, OutOfMemory, Project};
 use std::alloc::Global;
 
@@ -26,7 +26,10 @@ pub enum Read {
 /// where some line is at fault.
 pub fn read_project(alloc: Global, input: &[u8]) -> Result<Read, OutOfMemory>
     requires short { length input.now ≤ 33_554_432 }
-    ensures { IfOk result (ReadsAs (lines_of input.now)) }
+    ensures reading { IfOk result (ReadsAs (lines_of input.now)) }
+
+    // For those who compute with the project.
+    ensures sound { IfOk result AcceptsSound }
 {
     let lines = split_lines(alloc, input)?;
     let mut faults = List::new(alloc);
@@ -36,7 +39,8 @@ pub fn read_project(alloc: Global, input: &[u8]) -> Result<Read, OutOfMemory>
 
 /// The project where there is no fault.
 fn read_of(project: Project, faults: List<LineFault>) -> Read
-    ensures { (lines : Sequence DataLine) → faults ≡ cut (line_faults lines) → (line_faults lines ≡ [] → Means lines project) → ReadsAs lines result }
+    ensures reading { (lines : Sequence DataLine) → faults ≡ cut (line_faults lines) → (line_faults lines ≡ [] → Means lines project) → ReadsAs lines result }
+    ensures sound { (lines : Sequence DataLine) → faults ≡ cut (line_faults lines) → (line_faults lines ≡ [] → IsSound project) → AcceptsSound result }
 {
     if faults.as_slice().is_empty() {
         Read::Accepted(project)

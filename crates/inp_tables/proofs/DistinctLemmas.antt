@@ -1,19 +1,20 @@
 -- Names that lines define: each once, each at the place that is its number.
-use Rattle.std.proofs.Common.{◌≡◌, ◌∷◌, ◌++◌, [], ◌<◌, ◌≤◌, ◌||◌, ◌+◌, length, ℕ, zero, suc, List, Bool, true, false, cond, nat_le, bytes_eq, Option, Some, None, get_or, refl, ap, sym, ◌∙◌, arith, append-nil, append_assoc, map, ◌-◌}
+use Rattle.std.proofs.Common.{◌≡◌, ◌≢◌, ◌∷◌, ◌++◌, [], ◌<◌, ◌≤◌, ◌||◌, ◌+◌, length, ℕ, zero, suc, List, Bool, true, false, cond, nat_le, bytes_eq, Option, Some, None, get_or, refl, ap, sym, ◌∙◌, subst, arith, append-nil, append_assoc, map, ◌-◌}
 use Rattle.std.specs.Bool.{⊤}
 use Rattle.std.specs.Cmp.{IsEquivalence}
-use Rattle.std.specs.List.{IsDistinct, AllByRecursion, position_from}
+use Rattle.std.specs.List.{IsDistinct, AllByRecursion, list_any, position_from}
 use Rattle.std.proofs.lemmas.Bool.Decides.{nat_tests}
 use Rattle.std.proofs.lemmas.List.{map-append}
 use Rattle.std.proofs.lemmas.Map.Keys.{IsDistinct-push, IsDistinct-head, IsDistinct-tail}
 use Rattle.std.proofs.lemmas.Slice.Eq.{bytes_eq-Decides}
+use Rattle.net_types.specs.declared.faults.LineFault.{LineFault}
 use Rattle.inp_lines.specs.declared.line.Line.{Line}
 use Rattle.inp_lines.specs.declared.names.Naming.{Naming}
-use Rattle.inp_lines.specs.declared.names.Naming.TheVariants.{First, OverLimit}
+use Rattle.inp_lines.specs.declared.names.Naming.TheVariants.{First, Repeated, OverLimit}
 use Rattle.inp_lines.specs.declared.reading.Reading.{Reading}
 use Rattle.inp_lines.specs.declared.reading.Reading.TheVariants.{Other, Record, Faulty}
 use Rattle.inp_lines.specs.Gather.{gather, records_in, faults_in, reading_at, record_at, fault_at}
-use Rattle.inp_lines.specs.Names.{is_repeat, record_limit, with_first, with_name, firsts_after, defined, number_in, naming_of, naming_by, naming_among}
+use Rattle.inp_lines.specs.Names.{is_repeat, record_limit, with_first, with_name, firsts_after, firsts, defined, number_in, naming_of, naming_by, naming_among}
 use Rattle.inp_lines.proofs.NameLemmas.{defined_none, defined_more, first_new}
 
 -- names are compared byte for byte

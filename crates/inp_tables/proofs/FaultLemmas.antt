@@ -1,9 +1,10 @@
 -- Faults of lines of XSECTIONS.
-use Rattle.std.proofs.Common.{◌≡◌, List, false, refl, ap}
+use Rattle.std.proofs.Common.{◌≡◌, [], List, Bool, true, false, refl, ap, ℕ, Option}
 use Rattle.net_types.specs.declared.options.FlowUnits.{FlowUnits}
 use Rattle.inp_lines.specs.declared.line.Line.{Line}
 use Rattle.inp_lines.specs.declared.line.SectionName.{SectionName}
 use Rattle.inp_lines.specs.declared.line.SectionName.TheVariants as section
+use Rattle.inp_lines.specs.declared.names.Naming.{Naming}
 use Rattle.inp_lines.specs.declared.reading.Reading.{Reading}
 use Rattle.inp_lines.specs.declared.reading.Reading.TheVariants.{Other, Record, Faulty}
 use Rattle.inp_lines.specs.Gather.{faults_in, reading_at}

@@ -1,12 +1,16 @@
 -- The items of a line of XSECTIONS that were read, and what they mean.
-use Rattle.std.proofs.Common.{◌≡◌, ◌∷◌, [], ◌≤◌, ◌==◌, ◌&&◌, ◌≤ℤ◌, length, ℕ, suc, ℤ, pos, List, Bool, true, false, cond, nat_lt, nat_le, IsTrue, Option, Some, None, Result, Ok, Err, refl, subst, arith, codes, rules, tests}
+use Rattle.std.proofs.Common.{◌≡◌, ◌∷◌, [], ◌<◌, ◌≤◌, ◌==◌, ◌&&◌, ◌≤ℤ◌, length, ℕ, suc, ℤ, pos, List, Bool, true, false, cond, nat_lt, nat_le, not, is_some, IsTrue, Option, Some, None, Result, Ok, Err, refl, ap, sym, ◌∙◌, subst, arith, codes, rules, tests}
 use Rattle.std.specs.Prelude.{int_le}
 use Rattle.std.proofs.lemmas.Bool.Decides.{nat_tests}
+use Rattle.std.proofs.lemmas.Int.{ints}
+use Rattle.net_types.specs.declared.network.Section.{Section}
 use Rattle.net_types.specs.declared.network.Shape.TheVariants.{RectOpen}
 use Rattle.net_types.specs.declared.options.FlowUnits.{FlowUnits}
+use Rattle.fixed_num.specs.Decimal.{scaled_of}
 use Rattle.fixed_num.proofs.DecimalLemmas.{IsStored-scaled_of}
 use Rattle.inp_values.specs.declared.quantities.Quantity.TheVariants as quantity
 use Rattle.inp_values.specs.Field.{whole_of, IsWhole}
+use Rattle.inp_values.specs.Units.{unit_for}
 use Rattle.inp_values.specs.Words.{same_word}
 use Rattle.inp_values.proofs.FieldLemmas.{field_told}
 use Rattle.inp_lines.specs.declared.fault.Fault.{Fault}

@@ -1,5 +1,5 @@
 -- Links with their cross-sections, as lines without a fault mean them.
-use Rattle.std.proofs.Common.{◌≡◌, ◌∷◌, [], ◌<◌, ◌==◌, ◌&&◌, ◌+◌, length, ℕ, zero, suc, List, Bool, true, false, cond, not, is_some, nat_lt, bytes_eq, option_to_list, Option, Some, None, Result, Ok, Err, filter, get_or, map, drop, refl, ap, sym, ◌∙◌, subst, arith}
+use Rattle.std.proofs.Common.{◌≡◌, ◌≢◌, ◌∷◌, ◌++◌, [], ◌<◌, ◌≤◌, ◌==◌, ◌&&◌, ◌+◌, length, ℕ, zero, suc, List, Bool, true, false, cond, not, is_some, nat_lt, bytes_eq, option_to_list, Option, Some, None, Result, Ok, Err, filter, get_or, map, drop, refl, ap, ap₂, sym, ◌∙◌, subst, arith, drop-cons}
 use Rattle.std.specs.List.{All, AllZip, AllByRecursion, IsDistinct}
 use Rattle.std.specs.Option.{option_or}
 use Rattle.std.proofs.lemmas.Bool.Decides.{nat_tests}
@@ -14,20 +14,22 @@ use Rattle.inp_lines.specs.declared.line.SectionName.{SectionName}
 use Rattle.inp_lines.specs.declared.line.SectionName.TheVariants as section
 use Rattle.inp_lines.specs.declared.fault.Fault.{Fault}
 use Rattle.inp_lines.specs.declared.names.Naming.{Naming}
-use Rattle.inp_lines.specs.declared.reading.Reading.TheVariants.{Other}
+use Rattle.inp_lines.specs.declared.names.Naming.TheVariants.{First}
+use Rattle.inp_lines.specs.declared.reading.Reading.{Reading}
+use Rattle.inp_lines.specs.declared.reading.Reading.TheVariants.{Other, Record, Faulty}
 use Rattle.inp_lines.specs.Faults.{token_at}
 use Rattle.inp_lines.specs.Gather.{gather}
 use Rattle.inp_lines.specs.Laws.{Fits}
 use Rattle.inp_lines.specs.Names.{number_in}
-use Rattle.inp_lines.specs.Readings.{is_long, first_token, reading_from}
+use Rattle.inp_lines.specs.Readings.{is_long, first_token, name_with_of, reading_from}
 use Rattle.inp_lines.proofs.ZipLemmas.{zip_records}
 use Rattle.inp_tables.specs.declared.placing.LinkSection.{LinkSection}
 use Rattle.inp_objects.specs.Objects.{link_name, link_names}
 use Rattle.inp_tables.specs.LinkSections.{section_for, with_section, placed_sections}
-use Rattle.inp_tables.specs.SectionLines.{at_xsections, section_items, known_name, section_name, section_reading, section_found, section_fault}
+use Rattle.inp_tables.specs.SectionLines.{at_xsections, section_items, known_name, section_name, section_reading, link_numbers, section_found, section_fault}
 use Rattle.inp_tables.specs.SectionMeaning.{IsSection, is_section_line, names_link, sections_of_link, HasSection, MeansSections, AreBareLinks}
 use Rattle.inp_tables.proofs.DistinctLemmas.{bytes_equivalence, defined_distinct, number_names_place, own_place, Named, names_gathered}
-use Rattle.inp_tables.proofs.ItemLemmas.{items_read}
+use Rattle.inp_tables.proofs.ItemLemmas.{ItemsRead, items_read}
 
 -- a line means a cross-section, and the link that it names has a number
 abbrev IsFound : (List ℕ → Option ℕ) → FlowUnits → Line → LinkSection → Type 0

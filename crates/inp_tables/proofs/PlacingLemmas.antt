@@ -1,5 +1,5 @@
 -- Links and the cross-sections that were found for them.
-use Rattle.std.proofs.Common.{◌≡◌, ◌∷◌, ◌++◌, [], ◌<◌, ◌≤◌, ◌==◌, ◌+◌, length, ℕ, zero, suc, List, Bool, true, false, cond, Option, Some, None, set, take, drop, get_or, length-set, refl, ap, ap₂, sym, ◌∙◌, arith}
+use Rattle.std.proofs.Common.{◌≡◌, ◌∷◌, ◌++◌, [], ◌<◌, ◌≤◌, ◌==◌, ◌+◌, ◌-◌, length, ℕ, zero, suc, List, Bool, true, false, cond, Option, Some, None, set, take, drop, get_or, length-set, length-append, length-drop, refl, ap, ap₂, sym, ◌∙◌, arith}
 use Rattle.std.specs.Option.{option_or}
 use Rattle.std.proofs.lemmas.List.{take_at, take_more}
 use Rattle.std.proofs.lemmas.Bool.Decides.{nat_tests}

@@ -1,5 +1,5 @@
 -- Lines mean at most one cross-section for each link.
-use Rattle.std.proofs.Common.{◌≡◌, ◌<◌, ◌≤◌, length, ℕ, pos, List, Bool, true, false, nat_lt, option_to_list, Option, Some, None, refl, ap, sym, ◌∙◌, arith}
+use Rattle.std.proofs.Common.{◌≡◌, ◌∷◌, [], ◌<◌, ◌≤◌, length, ℕ, ℤ, pos, List, Bool, true, false, nat_lt, option_to_list, Option, Some, None, refl, ap, sym, ◌∙◌, arith}
 use Rattle.std.proofs.lemmas.Bool.Decides.{nat_tests}
 use Rattle.net_types.specs.declared.network.Link.{Link}
 use Rattle.net_types.specs.declared.network.Section.{Section}

@@ -1,5 +1,5 @@
 -- What a line of XSECTIONS says (User's Manual, section [XSECTIONS]; ranges and faults are this project's profile).
-use Rattle.std.specs.Prelude.{◌==◌, ℕ, ℤ, pos, int_le, nat_le, Bool, true, false, ◌&&◌, List, [], ◌∷◌, cond, is_some, codes, Option, Some, None, Result, Ok, Err}
+use Rattle.std.specs.Prelude.{◌≡◌, ◌==◌, ℕ, ℤ, pos, int_le, nat_le, Bool, true, false, ◌&&◌, List, [], ◌∷◌, get_or, cond, is_some, codes, Option, Some, None, Result, Ok, Err}
 use Rattle.net_types.specs.declared.options.FlowUnits.{FlowUnits}
 use Rattle.net_types.specs.declared.options.FlowUnits.TheVariants as units_are
 use Rattle.net_types.specs.declared.network.Shape.TheVariants.{RectOpen}

@@ -1,5 +1,5 @@
 -- What lines of XSECTIONS mean, said of the cross-sections themselves.
-use Rattle.std.specs.Prelude.{◌≡◌, ◌<◌, ◌≤◌, ℕ, ℤ, pos, ◌≤ℤ◌, Bool, ◌&&◌, not, List, codes, bytes_eq, filter, length, map, option_to_list, IsTrue, None}
+use Rattle.std.specs.Prelude.{◌≡◌, ◌<◌, ◌≤◌, ℕ, ℤ, pos, ◌≤ℤ◌, Bool, ◌&&◌, not, true, false, List, [], codes, bytes_eq, filter, length, map, option_to_list, IsTrue, Some, None}
 use Rattle.std.specs.List.{All, AllZip}
 use Rattle.net_types.specs.declared.network.Link.{Link}
 use Rattle.net_types.specs.declared.network.Section.{Section}

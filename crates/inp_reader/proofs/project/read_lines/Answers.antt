@@ -1,4 +1,5 @@
-use Rattle.std.proofs.Common.{◌∙◌, [], ap}
+use Rattle.std.proofs.Common.{◌∙◌, [], ap, subst, sym}
+use Rattle.net_types.specs.declared.options.Options.{Options}
 use Rattle.net_types.specs.declared.project.Project.{Project}
 use Rattle.inp_lines.specs.Faults.{cut}
 use Rattle.inp_lines.specs.Gather.{gather}
@@ -8,7 +9,9 @@ use Rattle.inp_options.specs.Options.{units_of}
 use Rattle.inp_objects.specs.Records.{object_fault}
 use Rattle.inp_tables.specs.SectionLines.{section_fault}
 use Rattle.inp_reader.proofs.FaultLemmas.{all_merged}
+use Rattle.inp_options.specs.Ranges.{AreInRange}
 use Rattle.inp_reader.proofs.MeaningLemmas.{options_have_units, project_means}
+use Rattle.inp_reader.proofs.SoundLemmas.{project_sound}
 use Rattle.inp_reader.proofs.project.read_lines.Goals as goal
 
 pub returns-clause-faults : goal.returns-clause-faults
@@ -35,3 +38,9 @@ returns-clause-project c =
     c.empty_project-project.ensures c.in_ok-read_tables.ensures.project
     c.in_ok-read_objects.ensures.project c.in_ok-read_objects.ensures.meaning
     c.in_ok-read_sections.ensures.project c.in_ok-read_sections.ensures.meaning
+
+pub returns-clause-sound : goal.returns-clause-sound
+returns-clause-sound c none =
+    let meant = returns-clause-project c none in
+    project_sound c.args.lines.now c.read_sections.new.project none
+    (subst (λ (o : Options). AreInRange o) (c.in_ok-options.ensures.options ∙ sym meant.options_are) c.in_ok-options.ensures.range) meant

@@ -1,3 +1,6 @@
+use Rattle.std.proofs.Common.{◌≡◌, ◌∙◌, ◌+◌, ◌++◌, ◌∷◌, [], ap, sym, take, refl, get_or}
+use Rattle.std.proofs.lemmas.List.{take_more, take_all}
+use Rattle.inp_tables.specs.LinkSections.{placed_sections, set_section}
 use Rattle.inp_tables.proofs.PlacingLemmas.{placed_nothing, placed_next}
 use Rattle.inp_tables.proofs.placing.place_sections.Goals as goal
 

@@ -1,7 +1,7 @@
-use Rattle.std.proofs.Common.{◌∙◌, ◌++◌, [], ap}
+use Rattle.std.proofs.Common.{◌≡◌, ◌∙◌, ◌++◌, [], ap, sym, refl}
 use Rattle.inp_lines.specs.Faults.{cut}
 use Rattle.inp_lines.specs.Gather.{gather, record_at, fault_at}
-use Rattle.inp_tables.specs.SectionLines.{section_name, section_reading, section_found, section_fault}
+use Rattle.inp_tables.specs.SectionLines.{section_name, section_reading, section_found, section_fault, link_numbers}
 use Rattle.inp_tables.proofs.sections.find_sections.Goals as goal
 
 pub returns-clause-found : goal.returns-clause-found

@@ -1,4 +1,4 @@
-use Rattle.std.proofs.Common.{◌++◌, List, ap, subst, sym, ◌∙◌}
+use Rattle.std.proofs.Common.{◌≡◌, ◌++◌, List, ap, subst, sym, ◌∙◌}
 use Rattle.std.specs.Prelude.{[]}
 use Rattle.net_types.specs.declared.network.Link.{Link}
 use Rattle.inp_lines.specs.Gather.{gather}
