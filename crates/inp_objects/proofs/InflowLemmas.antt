@@ -1,22 +1,27 @@
 -- Inflows: their count along a walk over lines, and what a line is read as.
-use Rattle.std.proofs.Common.{◌≡◌, ◌∷◌, [], ◌+◌, ◌<◌, ℕ, ℤ, pos, true, false, cond, not, Bool, List, length, take, get_or, nat_le, nat_lt, min, refl, ap, sym, ◌∙◌, arith, length-append, filter, Option, None, Some}
+use Rattle.std.proofs.Common.{◌≡◌, ◌∷◌, [], ◌++◌, ◌+◌, ◌<◌, ◌≤◌, ◌&&◌, ℕ, ℤ, pos, true, false, cond, not, Bool, List, length, take, get_or, nat_le, nat_lt, min, refl, ap, sym, subst, ◌∙◌, arith, length-append, filter, Option, None, Some, Result, Ok, Err}
 use Rattle.std.specs.Bool.{⊤}
 use Rattle.std.proofs.lemmas.Bool.Decides.{nat_tests}
 use Rattle.std.proofs.lemmas.List.Elements.{filter-append}
 use Rattle.net_types.specs.declared.inflows.Inflow.{Inflow}
 use Rattle.net_types.specs.declared.options.FlowUnits.{FlowUnits}
 use Rattle.inp_values.specs.declared.quantities.Quantity.TheVariants.{Raw}
+use Rattle.inp_lines.specs.declared.fault.Fault.{Fault}
 use Rattle.inp_lines.specs.declared.line.Line.{Line}
 use Rattle.inp_lines.specs.declared.line.SectionName.{SectionName}
 use Rattle.inp_lines.specs.declared.line.SectionName.TheVariants as section
+use Rattle.inp_lines.specs.declared.reading.Reading.TheVariants.{Other}
 use Rattle.inp_lines.specs.Faults.{token_at, too_few_of}
+use Rattle.inp_lines.specs.Gather.{gather, records_in}
 use Rattle.inp_lines.specs.Laws.{Fits}
-use Rattle.inp_lines.specs.Readings.{is_long, needed_of}
+use Rattle.inp_lines.specs.Names.{record_limit}
+use Rattle.inp_lines.specs.Readings.{is_long, needed_of, and_then, reading_from}
 use Rattle.inp_lines.proofs.GatherLemmas.{line_push}
-use Rattle.inp_objects.specs.Inflows.{counts_as_inflow, count_after_line, inflow_of, inflow_form_of, inflow_reading, room_of}
+use Rattle.inp_objects.specs.Inflows.{counts_as_inflow, count_after_line, inflow_at, inflow_of, inflow_form_of, inflow_reading, is_full, room_of}
 use Rattle.inp_objects.specs.Items.{number_or, no_more_of}
 use Rattle.inp_objects.specs.Meaning.{IsInflow, IsNumberOr}
 use Rattle.inp_objects.specs.Objects.{is_inflow_line}
+use Rattle.inp_objects.specs.Records.{inflows_of, node_number}
 use Rattle.inp_objects.proofs.ItemLemmas.{OnGood, line_good, any_good, needed_good, number_or_good, number_or_unique, some_unique, fits_plain}
 
 -- the count of the inflows of lines, which ends at the limit
@@ -64,3 +69,40 @@ same_inflow a b p q r s t = λ i. record { node = p i; series = q i; scale6 = r 
 pub inflow_unique : (units : FlowUnits) (nodes : List ℕ → Option ℕ) (tokens : List (List ℕ)) (a b : Inflow) → IsInflow units nodes tokens a → IsInflow units nodes tokens b → a ≡ b
 inflow_unique units nodes tokens a b h k = same_inflow a b (some_unique _ _ _ h.node_is k.node_is) (h.series_is ∙ sym k.series_is)
     (number_or_unique _ _ _ _ _ _ _ h.scale_is k.scale_is) (number_or_unique _ _ _ _ _ _ _ h.base_is k.base_is) (h.pattern_is ∙ sym k.pattern_is)
+
+-- a line gives an inflow only where it counts as one and there is room
+room_given : (full long short : Bool) (few : Fault) (rest : Result Inflow Fault) → length (records_in (cond long Other (reading_from (cond short (Err few) (and_then (room_of full) (λ _. rest)))))) ≤ cond full 0 (cond (not long && not short) 1 0)
+room_given full true short few rest = omega arith
+room_given full false true few rest = omega arith
+room_given true false false few rest = omega arith
+room_given false false false few (Ok inflow) = omega arith
+room_given false false false few (Err fault) = omega arith
+
+given_room : (units : FlowUnits) (nodes : List ℕ → Option ℕ) (full : Bool) (line : Line) → length (records_in (inflow_reading units nodes full line)) ≤ cond full 0 (cond (counts_as_inflow line) 1 0)
+unfolding inflow_of
+given_room units nodes full line = at line.section line.number line.tokens line.bytes where
+  at : (s : SectionName) (number : ℕ) (tokens : List (List ℕ)) (bytes : List ℕ) → let here : Line = record { number = number; section = s; tokens = tokens; bytes = bytes } in length (records_in (inflow_reading units nodes full here)) ≤ cond full 0 (cond (counts_as_inflow here) 1 0)
+  at section.Inflows number tokens bytes = let here : Line = record { number = number; section = section.Inflows; tokens = tokens; bytes = bytes } in room_given full (is_long here) (nat_lt (length tokens) 3) (too_few_of tokens) _
+  at _ number tokens bytes = omega arith
+
+-- inflows of these lines and of those before them
+few_step : (k g n : ℕ) (line : Line) (full one : Bool) → nat_le 20000 n ≡ full → k ≤ cond full 0 (cond one 1 0) → g + min 20000 (n + length (cond one (line ∷ []) [])) ≤ 20000 → (k + g) + min 20000 n ≤ 20000
+few_step k g n line true one e a b = let h : 20000 ≤ n = grind (arith, nat_tests) in omega (arith, h, a, b)
+few_step k g n line false true e a b = let h : n < 20000 = grind (arith, nat_tests) in omega (arith, h, a, b)
+few_step k g n line false false e a b = let h : n < 20000 = grind (arith, nat_tests) in omega (arith, h, a, b)
+
+few_more : (units : FlowUnits) (nodes : List ℕ → Option ℕ) (before lines : List Line) → length (gather (inflow_at units nodes) before lines) + counted before ≤ 20000
+few_more units nodes before [] = omega arith
+few_more units nodes before (line ∷ lines) =
+    let given = inflow_at units nodes before line in
+    let rest = gather (inflow_at units nodes) (before ++ line ∷ []) lines in
+    let n = length (filter counts_as_inflow before) in
+    let next : length rest + min 20000 (n + length (filter counts_as_inflow (line ∷ []))) ≤ 20000 =
+    subst (λ m. length rest + min 20000 m ≤ 20000) (ap (λ (l : List Line). length l) (filter-append counts_as_inflow before (line ∷ [])) ∙ length-append (filter counts_as_inflow before) (filter counts_as_inflow (line ∷ []))) (few_more units nodes (before ++ line ∷ []) lines) in
+    subst (λ m. m + min 20000 n ≤ 20000) (sym (length-append given rest))
+    (few_step (length given) (length rest) n line (is_full before) (counts_as_inflow line) refl (given_room units nodes (is_full before) line) next)
+
+-- lines give at most as many inflows as may be
+pub few_inflows : (units : FlowUnits) (lines : List Line) → length (inflows_of units lines) ≤ record_limit
+unfolding inflows_of
+few_inflows units lines = let few = few_more units (node_number lines) [] lines in omega (arith, few)

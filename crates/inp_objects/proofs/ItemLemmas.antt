@@ -1,6 +1,6 @@
 -- What a good outcome of a line's items says, item by item.
 use Rattle.std.proofs.Common.{◌≡◌, ◌<◌, ◌≤◌, ℕ, ℤ, pos, true, false, cond, Bool, List, length, nat_lt, int_le, refl, sym, ◌∙◌, arith, Option, None, Some, Result, Ok, Err}
-use Rattle.std.proofs.lemmas.Bool.Decides.{nat_tests}
+use Rattle.std.proofs.lemmas.Bool.Decides.{nat_tests, Decides-int_eq}
 use Rattle.std.specs.Bool.{⊤}
 use Rattle.std.specs.Ordering.{int_eq}
 use Rattle.net_types.specs.declared.options.FlowUnits.{FlowUnits}
@@ -57,8 +57,8 @@ number_or_good missing units quantity tokens place = go (nat_lt place (length to
   go false e = let h : length tokens ≤ place = grind (arith, nat_tests) in record { there = λ k. absurd (omega (arith, h, k)); absent = λ _. refl }
 
 -- a number that has to be one value keeps what is known of it
-pub only_good : (only : ℤ) (place : ℕ) (value : ℤ) (P : ℤ → Type 0) → P value → OnGood (only_of only place value) P
-only_good only place value P h = test_good (int_eq value only) (fault_of 401 place) (Ok value) P (λ _. h)
+pub only_good : (only : ℤ) (place : ℕ) (value : ℤ) (P : ℤ → Type 0) → P value → OnGood (only_of only place value) (λ v. P v × (v ≡ only))
+only_good only place value P h = test_good (int_eq value only) (fault_of 401 place) (Ok value) (λ v. P v × (v ≡ only)) (λ e. (h, (Decides-int_eq value only).0 e))
 
 pub not_below_good : (place : ℕ) (value : ℤ) (P : ℤ → Type 0) → P value → OnGood (not_below_zero_of place value) P
 not_below_good place value P h = test_good (int_le (pos 0) value) (fault_of 211 place) (Ok value) P (λ _. h)

@@ -22,18 +22,22 @@ use Rattle.inp_objects.specs.Meaning.{IsConduit, IsNumber, IsNumberOr}
 use Rattle.inp_objects.specs.Objects.{is_link_line}
 use Rattle.inp_objects.proofs.ItemLemmas.{OnGood, and_good, line_good, any_good, needed_good, number_good, number_or_good, only_good, not_below_good, number_or_unique, some_unique, fits_made}
 
-offset_good : (units : FlowUnits) (tokens : List (List ℕ)) (place : ℕ) → OnGood (offset_of units tokens place) (IsNumber units Depth tokens place)
+-- only 0 is built
+abbrev IsBuilt : (ℤ → Type 0) → ℤ → Type 0
+IsBuilt P value = P value × (value ≡ pos 0)
+
+offset_good : (units : FlowUnits) (tokens : List (List ℕ)) (place : ℕ) → OnGood (offset_of units tokens place) (IsBuilt (IsNumber units Depth tokens place))
 offset_good units tokens place = let P = IsNumber units Depth tokens place in
-    and_good (number_at units Depth tokens place) (λ offset. only_of (pos 0) place offset) P P (number_good units Depth tokens place) (λ value is. only_good (pos 0) place value P is)
+    and_good (number_at units Depth tokens place) (λ offset. only_of (pos 0) place offset) P (IsBuilt P) (number_good units Depth tokens place) (λ value is. only_good (pos 0) place value P is)
 
-initial_good : (units : FlowUnits) (tokens : List (List ℕ)) → OnGood (initial_flow_of units tokens) (IsNumberOr (pos 0) units Flow tokens 7)
+initial_good : (units : FlowUnits) (tokens : List (List ℕ)) → OnGood (initial_flow_of units tokens) (IsBuilt (IsNumberOr (pos 0) units Flow tokens 7))
 initial_good units tokens = let P = IsNumberOr (pos 0) units Flow tokens 7 in
-    and_good (number_or (pos 0) units Flow tokens 7) (λ flow. only_of (pos 0) 7 flow) P P (number_or_good (pos 0) units Flow tokens 7) (λ value is. only_good (pos 0) 7 value P is)
+    and_good (number_or (pos 0) units Flow tokens 7) (λ flow. only_of (pos 0) 7 flow) P (IsBuilt P) (number_or_good (pos 0) units Flow tokens 7) (λ value is. only_good (pos 0) 7 value P is)
 
-greatest_good : (units : FlowUnits) (tokens : List (List ℕ)) → OnGood (greatest_flow_of units tokens) (IsNumberOr (pos 0) units Flow tokens 8)
+greatest_good : (units : FlowUnits) (tokens : List (List ℕ)) → OnGood (greatest_flow_of units tokens) (IsBuilt (IsNumberOr (pos 0) units Flow tokens 8))
 greatest_good units tokens = let P = IsNumberOr (pos 0) units Flow tokens 8 in
-    and_good (number_or (pos 0) units Flow tokens 8) (λ flow. and_then (not_below_zero_of 8 flow) (λ flow. only_of (pos 0) 8 flow)) P P (number_or_good (pos 0) units Flow tokens 8)
-    (λ value is. and_good (not_below_zero_of 8 value) (λ flow. only_of (pos 0) 8 flow) P P (not_below_good 8 value P is) (λ value is. only_good (pos 0) 8 value P is))
+    and_good (number_or (pos 0) units Flow tokens 8) (λ flow. and_then (not_below_zero_of 8 flow) (λ flow. only_of (pos 0) 8 flow)) P (IsBuilt P) (number_or_good (pos 0) units Flow tokens 8)
+    (λ value is. and_good (not_below_zero_of 8 value) (λ flow. only_of (pos 0) 8 flow) P (IsBuilt P) (not_below_good 8 value P is) (λ value is. only_good (pos 0) 8 value P is))
 
 -- the numbers of a conduit
 pub record IsConduitKind (units : FlowUnits) (tokens : List (List ℕ)) (kind : LinkKind) : Type 0 where
@@ -49,18 +53,22 @@ pub record IsConduitKind (units : FlowUnits) (tokens : List (List ℕ)) (kind : 
   pub z2_is : IsNumber units Depth tokens 6 z2
   pub q0_is : IsNumberOr (pos 0) units Flow tokens 7 q0
   pub q_max_is : IsNumberOr (pos 0) units Flow tokens 8 q_max
+  pub z1_built : z1 ≡ pos 0
+  pub z2_built : z2 ≡ pos 0
+  pub q0_built : q0 ≡ pos 0
+  pub q_max_built : q_max ≡ pos 0
   pub kind_is : kind ≡ Conduit length_read n6 z1 z2 q0 q_max (pos 0) (pos 0) (pos 0) false
 
 kind_good : (units : FlowUnits) (tokens : List (List ℕ)) → OnGood (conduit_kind_of units tokens) (IsConduitKind units tokens)
 unfolding conduit_kind_of
 kind_good units tokens = line_good
     (λ (length_read : ℤ) (n6 : ℤ) (z1 : ℤ) (z2 : ℤ) (q0 : ℤ) (q_max : ℤ). Conduit length_read n6 z1 z2 q0 q_max (pos 0) (pos 0) (pos 0) false)
-    (IsNumber units ConduitLength tokens 3) (IsNumber units Roughness tokens 4) (IsNumber units Depth tokens 5) (IsNumber units Depth tokens 6) (IsNumberOr (pos 0) units Flow tokens 7) (IsNumberOr (pos 0) units Flow tokens 8) (IsConduitKind units tokens)
+    (IsNumber units ConduitLength tokens 3) (IsNumber units Roughness tokens 4) (IsBuilt (IsNumber units Depth tokens 5)) (IsBuilt (IsNumber units Depth tokens 6)) (IsBuilt (IsNumberOr (pos 0) units Flow tokens 7)) (IsBuilt (IsNumberOr (pos 0) units Flow tokens 8)) (IsConduitKind units tokens)
     false (too_few_of tokens)
     (number_at units ConduitLength tokens 3) (number_at units Roughness tokens 4) (offset_of units tokens 5) (offset_of units tokens 6) (initial_flow_of units tokens) (greatest_flow_of units tokens)
     (number_good units ConduitLength tokens 3) (number_good units Roughness tokens 4) (offset_good units tokens 5) (offset_good units tokens 6) (initial_good units tokens) (greatest_good units tokens)
     (λ length_read n6 z1 z2 q0 q_max length_is n6_is z1_is z2_is q0_is q_max_is.
-    record { length_read = length_read; n6 = n6; z1 = z1; z2 = z2; q0 = q0; q_max = q_max; length_is = length_is; n6_is = n6_is; z1_is = z1_is; z2_is = z2_is; q0_is = q0_is; q_max_is = q_max_is; kind_is = refl })
+    record { length_read = length_read; n6 = n6; z1 = z1; z2 = z2; q0 = q0; q_max = q_max; length_is = length_is; n6_is = n6_is; z1_is = z1_is.0; z2_is = z2_is.0; q0_is = q0_is.0; q_max_is = q_max_is.0; z1_built = z1_is.1; z2_built = z2_is.1; q0_built = q0_is.1; q_max_built = q_max_is.1; kind_is = refl })
 
 conduit_good : (units : FlowUnits) (nodes : List ℕ → Option ℕ) (naming : Naming) (line : Line) → OnGood (conduit_of units nodes naming line.tokens) (λ items. IsConduit units nodes line.tokens (link_from line items))
 unfolding conduit_of
@@ -74,7 +82,7 @@ conduit_good units nodes naming line = let tokens = line.tokens in
     nothing nothing (new_name_of naming) (needed_of (nodes (token_at tokens 1)) 209 1) (needed_of (nodes (token_at tokens 2)) 209 2) (conduit_kind_of units tokens)
     tt tt (any_good (new_name_of naming)) (needed_good (nodes (token_at tokens 1)) 209 1) (needed_good (nodes (token_at tokens 2)) 209 2) (kind_good units tokens)
     (λ _ _ _ first second kind _ _ _ first_is second_is is.
-    record { length_read = is.length_read; n6 = is.n6; z1 = is.z1; z2 = is.z2; q0 = is.q0; q_max = is.q_max; name_is = refl; first_is = first_is; second_is = second_is; length_is = is.length_is; n6_is = is.n6_is; z1_is = is.z1_is; z2_is = is.z2_is; q0_is = is.q0_is; q_max_is = is.q_max_is; kind_is = is.kind_is; section_is = refl })
+    record { length_read = is.length_read; n6 = is.n6; z1 = is.z1; z2 = is.z2; q0 = is.q0; q_max = is.q_max; name_is = refl; first_is = first_is; second_is = second_is; length_is = is.length_is; n6_is = is.n6_is; z1_is = is.z1_is; z2_is = is.z2_is; q0_is = is.q0_is; q_max_is = is.q_max_is; z1_built = is.z1_built; z2_built = is.z2_built; q0_built = is.q0_built; q_max_built = is.q_max_built; kind_is = is.kind_is; section_is = refl })
 
 pub fits_link : (units : FlowUnits) (nodes : List ℕ → Option ℕ) (naming : Naming) (line : Line) → Fits (λ l link. IsConduit units nodes l.tokens link) is_link_line line (link_reading units nodes naming line)
 fits_link units nodes naming line = at line.section line.number line.tokens line.bytes where

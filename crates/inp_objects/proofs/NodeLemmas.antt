@@ -58,11 +58,11 @@ gate_good tokens = go (nat_lt 4 (length tokens)) refl where
   there : 4 < length tokens → (o : Option Bool) → switch_of (token_at tokens 4) ≡ o → OnGood (gate_from 4 o) (IsGate tokens)
   there h None e = tt
   there h (Some true) e = tt
-  there h (Some false) e = record { there = λ _. e; absent = λ k. absurd (omega (arith, h, k)) }
+  there h (Some false) e = record { there = λ _. e; absent = λ k. absurd (omega (arith, h, k)); built = refl }
 
   go : (b : Bool) → nat_lt 4 (length tokens) ≡ b → OnGood (cond b (gate_from 4 (switch_of (token_at tokens 4))) (Ok false)) (IsGate tokens)
   go true e = there (grind (arith, nat_tests)) (switch_of (token_at tokens 4)) refl
-  go false e = let h : length tokens ≤ 4 = grind (arith, nat_tests) in record { there = λ k. absurd (omega (arith, h, k)); absent = λ _. refl }
+  go false e = let h : length tokens ≤ 4 = grind (arith, nat_tests) in record { there = λ k. absurd (omega (arith, h, k)); absent = λ _. refl; built = refl }
 
 pub outfall_good : (units : FlowUnits) (naming : Naming) (line : Line) → OnGood (outfall_of units naming line.tokens) (λ items. IsOutfall units line.tokens (node_from line items))
 unfolding outfall_of

@@ -42,10 +42,11 @@ pub record IsJunction (units : FlowUnits) (tokens : List (List ℕ)) (node : Nod
   pub pond_is : IsNumberOr (pos 0) units NodeArea tokens 5 pond
   pub kind_is : node.kind ≡ Junction surcharge pond
 
--- The gate of an outfall by its fifth item, which may be missing. Source: User's Manual, section [OUTFALLS].
+-- The gate of an outfall by its fifth item, which may be missing; only NO is built. Source: User's Manual, section [OUTFALLS].
 pub record IsGate (tokens : List (List ℕ)) (gated : Bool) : Type 0 where
   pub there : 4 < length tokens → switch_of (token_at tokens 4) ≡ Some gated
   pub absent : length tokens ≤ 4 → gated ≡ false
+  pub built : gated ≡ false
 
 -- A line of OUTFALLS means this node. Source: User's Manual, section [OUTFALLS].
 pub record IsOutfall (units : FlowUnits) (tokens : List (List ℕ)) (node : Node) : Type 0 where
@@ -60,7 +61,7 @@ pub record IsOutfall (units : FlowUnits) (tokens : List (List ℕ)) (node : Node
   pub gate_is : IsGate tokens gated
   pub kind_is : node.kind ≡ Outfall (Fixed stage) gated
 
--- A line of CONDUITS means this link. Source: User's Manual, section [CONDUITS].
+-- A line of CONDUITS means this link. Of offsets, initial and greatest flow only 0 is built. Source: User's Manual, section [CONDUITS].
 pub record IsConduit (units : FlowUnits) (nodes : List ℕ → Option ℕ) (tokens : List (List ℕ)) (link : Link) : Type 0 where
   pub length_read : ℤ
   pub n6 : ℤ
@@ -77,6 +78,10 @@ pub record IsConduit (units : FlowUnits) (nodes : List ℕ → Option ℕ) (toke
   pub z2_is : IsNumber units Depth tokens 6 z2
   pub q0_is : IsNumberOr (pos 0) units Flow tokens 7 q0
   pub q_max_is : IsNumberOr (pos 0) units Flow tokens 8 q_max
+  pub z1_built : z1 ≡ pos 0
+  pub z2_built : z2 ≡ pos 0
+  pub q0_built : q0 ≡ pos 0
+  pub q_max_built : q_max ≡ pos 0
   pub kind_is : link.kind ≡ Conduit length_read n6 z1 z2 q0 q_max (pos 0) (pos 0) (pos 0) false
   pub section_is : link.section ≡ None
 

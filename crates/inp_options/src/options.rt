@@ -9,6 +9,7 @@ ghost use Rattle.inp_options.specs.OptionLines.{option_fault};
 ghost use Rattle.inp_options.specs.Options.{options_by, options_of, units_of};
 ghost use Rattle.inp_options.specs.Ranges.{AreInRange, IsTrials};
 ghost use Rattle.inp_options.specs.Warnings.{warnings_of};
+ghost use Rattle.inp_values.specs.Clock.{IsEven};
 
 use crate::chosen::{Latest, latest_in};
 use crate::times::moment;
@@ -86,6 +87,7 @@ fn options_by(units: FlowUnits, latest: &Latest) -> Options
 fn within_or(value: Option<i64>, default: i64) -> i64
     ensures value { result ≡ unwrap_or value default }
     ensures range { (least most : ℤ) → IfSome value (λ v. IsBetween least v most) → IsBetween least default most → IsBetween least result most }
+    ensures even { IfSome value IsEven → IsEven default → IsEven result }
 {
     match value {
         Some(value) => value,

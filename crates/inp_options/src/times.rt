@@ -4,7 +4,7 @@ ghost use Rattle.fixed_num.specs.Ranges.{IsBetween};
 ghost use Rattle.inp_lines.specs.Readings.{needed_of};
 ghost use Rattle.inp_options.specs.Values.{moment_of, within};
 ghost use Rattle.inp_values.specs.CalendarDate.{date_of};
-ghost use Rattle.inp_values.specs.Clock.{clock_of, time_of_day_of};
+ghost use Rattle.inp_values.specs.Clock.{IsEven, clock_of, time_of_day_of};
 ghost use Rattle.inp_values.specs.Duration.{seconds_of};
 
 use crate::values::in_range;
@@ -29,6 +29,7 @@ pub(crate) fn day(text: &[u8]) -> Result<i64, Fault>
 pub(crate) fn time(text: &[u8]) -> Result<i64, Fault>
     ensures value { result ≡ needed_of (time_of_day_of text.now) 213 1 }
     ensures range { IfOk result (λ ms. IsBetween (pos 0) ms (pos 86_399_999)) }
+    ensures even { IfOk result IsEven }
 {
     match time_of_day(text) {
         Some(ms) => Ok(ms),
@@ -51,6 +52,7 @@ pub(crate) fn clock_step(text: &[u8], most: i64) -> Result<i64, Fault>
 pub(crate) fn routing_step(text: &[u8]) -> Result<i64, Fault>
     ensures value { result ≡ needed_of (within (pos 10) (pos 3_600_000) (seconds_of text.now)) 213 1 }
     ensures range { IfOk result (λ ms. IsBetween (pos 10) ms (pos 3_600_000)) }
+    ensures even { IfOk result IsEven }
 {
     in_range(seconds(text), 10, 3_600_000, 213)
 }
@@ -61,6 +63,7 @@ pub(crate) fn moment(day: i64, time: i64) -> i64
     requires time { IsBetween (pos 0) time (pos 86_399_999) }
     ensures value { result ≡ moment_of day time }
     ensures range { IsBetween (neg_ℤ (pos 2_208_988_800_000)) result (pos 7_289_654_399_999) }
+    ensures even { IsEven time → IsEven result }
 {
     day * 86_400_000 + time
 }

@@ -1,10 +1,11 @@
 // The values of numbers and switches.
-ghost use Rattle.std.specs.Prelude.{◌≡◌, ◌^◌, pos, IfOk};
+ghost use Rattle.std.specs.Prelude.{◌≡◌, ◌^◌, pos, IfOk, IfSome};
 ghost use Rattle.fixed_num.specs.Decimal.{scaled_of};
 ghost use Rattle.fixed_num.specs.Ranges.{IsBetween};
 ghost use Rattle.inp_lines.specs.Readings.{needed_of};
 ghost use Rattle.inp_options.specs.Ranges.{IsTrials};
 ghost use Rattle.inp_options.specs.Values.{area_of, built_of, is_zero, off_of, tolerance_of, trials_of, within, zero_as};
+ghost use Rattle.inp_values.specs.Clock.{IsEven};
 ghost use Rattle.inp_values.specs.Field.{whole_of};
 ghost use Rattle.inp_values.specs.Units.{unit_for};
 
@@ -18,6 +19,7 @@ use net_types::FlowUnits;
 pub(crate) fn in_range(value: Option<i64>, least: i64, most: i64, number: u32) -> Result<i64, Fault>
     ensures value { result ≡ needed_of (within least most value) number 1 }
     ensures range { IfOk result (λ v. IsBetween least v most) }
+    ensures even { IfSome value IsEven → IfOk result IsEven }
 {
     let Some(value) = value else {
         return Err(Fault { number, place: 1 });

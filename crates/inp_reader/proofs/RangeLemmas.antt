@@ -19,7 +19,7 @@ use Rattle.inp_values.specs.declared.quantities.Quantity.TheVariants as quantity
 use Rattle.inp_values.specs.Units.{unit_for}
 use Rattle.inp_objects.specs.Meaning.{IsNumber, IsNumberOr, IsJunction, IsOutfall, AsNode, IsNode, IsConduit, IsInflow}
 use Rattle.inp_tables.specs.SectionMeaning.{IsSection, HasSection}
-use Rattle.inp_reader.specs.Soundness.{IsElevation, IsDepth, IsWidth, IsFlow, IsRaw, NodeKindInRange, NodeInRange, ShapeInRange, SectionInRange, NoneOrInRange, LinkKindInRange, LinkInRange, InflowInRange}
+use Rattle.inp_reader.specs.Soundness.{IsElevation, IsDepth, IsWidth, IsRaw, NodeKindInRange, NodeInRange, ShapeInRange, SectionInRange, NoneOrInRange, LinkKindInRange, LinkInRange, InflowInRange}
 
 -- the ends of the ranges, which the units of measure have no part in
 module _ (units : FlowUnits) (text : List ℕ) (value : ℤ) where
@@ -47,10 +47,6 @@ module _ (units : FlowUnits) (text : List ℕ) (value : ℤ) where
   unfolding unit_for
   roughness_in stored = stored.range
 
-  flow_in : IsStored (unit_for units quantity.Flow) text value → IsFlow value
-  unfolding unit_for
-  flow_in stored = stored.range
-
   raw_in : IsStored (unit_for units quantity.Raw) text value → IsRaw value
   unfolding unit_for
   raw_in stored = stored.range
@@ -68,9 +64,6 @@ zero_depth = record { from = omega (arith, ints); to = omega (arith, ints) }
 
 zero_area : IsBetween (pos 0) (pos 0) (pos (10 ^ 13))
 zero_area = record { from = omega (arith, ints); to = omega (arith, ints) }
-
-zero_flow : IsFlow (pos 0)
-zero_flow = record { from = omega (arith, ints); to = omega (arith, ints) }
 
 zero_raw : IsRaw (pos 0)
 zero_raw = record { from = omega (arith, ints); to = omega (arith, ints) }
@@ -96,7 +89,7 @@ outfall_in units tokens node is = record {
   invert_in = elevation_in units _ node.invert is.invert_is;
   y_max_in = subst IsDepth (sym is.y_max_is) zero_depth;
   y0_in = subst IsDepth (sym is.y0_is) zero_depth;
-  kind_in = subst NodeKindInRange (sym is.kind_is) (elevation_in units _ is.stage is.stage_is);
+  kind_in = subst NodeKindInRange (sym is.kind_is) (elevation_in units _ is.stage is.stage_is, is.gate_is.built);
 }
 
 pub node_in : (units : FlowUnits) (line : Line) (node : Node) → IsNode units line node → NodeInRange node
@@ -106,17 +99,18 @@ node_in units line node is = at line.«section» is where
   at section.Outfalls o = outfall_in units line.tokens node o
   at _ n = absurd n
 
-flow_or : (units : FlowUnits) (tokens : List (List ℕ)) (place : ℕ) (value : ℤ) → IsNumberOr (pos 0) units quantity.Flow tokens place value → IsFlow value
-flow_or units tokens place value item = or_in IsFlow (pos 0) units quantity.Flow tokens place value zero_flow (flow_in units _ value) item
-
 pub conduit_in : (units : FlowUnits) (nodes : List ℕ → Option ℕ) (tokens : List (List ℕ)) (link : Link) → IsConduit units nodes tokens link → LinkKindInRange link.kind
 conduit_in units nodes tokens link is = subst LinkKindInRange (sym is.kind_is) (record {
   length_is_in = length_in units _ is.length_read is.length_is;
   n6_in = roughness_in units _ is.n6 is.n6_is;
-  z1_in = depth_in units _ is.z1 is.z1_is;
-  z2_in = depth_in units _ is.z2 is.z2_is;
-  q0_in = flow_or units tokens 7 is.q0 is.q0_is;
-  q_max_in = flow_or units tokens 8 is.q_max is.q_max_is;
+  z1_is = is.z1_built;
+  z2_is = is.z2_built;
+  q0_is = is.q0_built;
+  q_max_is = is.q_max_built;
+  entry_is = refl;
+  exit_is = refl;
+  avg_is = refl;
+  no_flap = refl;
 })
 
 pub inflow_in : (units : FlowUnits) (nodes : List ℕ → Option ℕ) (count : ℕ) (tokens : List (List ℕ)) (inflow : Inflow) → ((name : List ℕ) (k : ℕ) → nodes name ≡ Some k → k < count) → IsInflow units nodes tokens inflow → InflowInRange count inflow
@@ -124,20 +118,16 @@ inflow_in units nodes count tokens inflow within is = record {
   node_in = within _ inflow.node is.node_is;
   scale_in = or_in IsRaw (pos 1_000_000) units quantity.Raw tokens 5 inflow.scale6 one_raw (raw_in units _ inflow.scale6) is.scale_is;
   base_in = or_in IsRaw (pos 0) units quantity.Raw tokens 6 inflow.base6 zero_raw (raw_in units _ inflow.base6) is.base_is;
+  no_series = is.series_is;
+  no_pattern = is.pattern_is;
 }
-
-few_barrels : (barrels : ℤ) (n : ℕ) → barrels ≡ pos n → 1 ≤ n → n ≤ 100 → IsBetween (pos 1) barrels (pos 100)
-few_barrels barrels n e a b = record { from = omega (arith, ints, e); to = omega (arith, ints, e) }
 
 section_of_line_in : (units : FlowUnits) (tokens : List (List ℕ)) (meant : Section) → IsSection units tokens meant → SectionInRange meant
 section_of_line_in units tokens meant is = record {
   shape_in = subst ShapeInRange (sym is.shape_is) (width_in units _ is.width is.width_is);
   full_in = record { from = is.high; to = (depth_in units _ meant.full is.full_is).to };
-  barrels_in = step (nat_lt 6 (length tokens)) refl;
-} where
-  step : (b : Bool) → nat_lt 6 (length tokens) ≡ b → IsBetween (pos 1) meant.barrels (pos 100)
-  step true e = let h : 6 < length tokens = grind (arith, nat_tests) in let r = is.count_is.there h in few_barrels meant.barrels is.count is.barrels_are r.1 r.2
-  step false e = let h : length tokens ≤ 6 = grind (arith, nat_tests) in few_barrels meant.barrels 1 (is.barrels_are ∙ ap (λ (n : ℕ). pos n) (is.count_is.absent h)) (omega arith) (omega arith)
+  one_barrel = is.barrels_are ∙ ap (λ (n : ℕ). pos n) is.count_is.built;
+}
 
 section_in : (units : FlowUnits) (lines : List Line) (found : Option Section) → AllZip (λ line meant. IsSection units line.tokens meant) lines (option_to_list found) → NoneOrInRange found
 section_in units lines None z = tt

@@ -4,6 +4,7 @@ use Rattle.std.specs.List.{filter}
 use Rattle.std.proofs.lemmas.Bool.Decides.{nat_tests}
 use Rattle.std.proofs.lemmas.List.{length-map}
 use Rattle.std.proofs.lemmas.Slice.Zip.{AllZip-long}
+use Rattle.net_types.specs.declared.inflows.Inflow.{Inflow}
 use Rattle.net_types.specs.declared.network.Link.{Link}
 use Rattle.net_types.specs.declared.network.Node.{Node}
 use Rattle.net_types.specs.declared.options.FlowUnits.{FlowUnits}
@@ -20,6 +21,7 @@ use Rattle.inp_objects.specs.Meaning.{IsConduit, IsInflow, IsNode}
 use Rattle.inp_objects.specs.Nodes.{junction_of, outfall_of, node_from, node_reading}
 use Rattle.inp_objects.specs.Objects.{has_stage_item, outfall_least, node_name, node_names, link_name, is_node_line, is_link_line, is_inflow_line}
 use Rattle.inp_objects.specs.Records.{node_fault, node_number, nodes_of, links_of, inflows_of}
+use Rattle.inp_objects.proofs.InflowLemmas.{few_inflows as inflows_few}
 use Rattle.inp_objects.proofs.MeaningLemmas.{means_objects, means_one}
 use Rattle.inp_lines.specs.Faults.{token_at}
 use Rattle.inp_options.specs.Options.{units_of}
@@ -87,6 +89,7 @@ project_sound lines project none options means =
       options_in = options;
       few_nodes = subst (λ (n : ℕ). n ≤ record_limit) (sym nodes) (defined_few node_name lines);
       few_links = subst (λ (n : ℕ). n ≤ record_limit) (sym links) (defined_few link_name lines);
+      few_inflows = subst (λ (l : List Inflow). length l ≤ record_limit) (sym same.2) (inflows_few units lines);
       nodes_in = all_zipped (IsNode units) NodeInRange (node_in units) (filter is_node_line lines) project.nodes means.objects_are.nodes_are;
       links_in = all_through (HasSection units lines) (BareInRange count) (LinkInRange count) (link_in units lines count) means.bare_links project.links
           (all_zipped (λ (line : Line) link. IsConduit units numbers line.tokens link) (BareInRange count) (λ line link is. bare_in units numbers count line.tokens link within is) (filter is_link_line lines) means.bare_links means.objects_are.links_are)

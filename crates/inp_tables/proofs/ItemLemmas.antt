@@ -59,9 +59,9 @@ one_ok n u h = step (n == 1) refl h where
   step false e same = cc
 
 one_barrel : (name shape height width : List ℕ) (rest : List (List ℕ)) (u : Unit {0}) → built_barrels rest ≡ Ok u → AreBarrels (name ∷ shape ∷ height ∷ width ∷ rest) 1
-one_barrel name shape height width [] u h = record { there = λ k. absurd (omega (arith, k)); absent = λ k. refl }
-one_barrel name shape height width (a ∷ []) u h = record { there = λ k. absurd (omega (arith, k)); absent = λ k. refl }
-one_barrel name shape height width (a ∷ b ∷ []) u h = record { there = λ k. absurd (omega (arith, k)); absent = λ k. refl }
+one_barrel name shape height width [] u h = record { there = λ k. absurd (omega (arith, k)); absent = λ k. refl; built = refl }
+one_barrel name shape height width (a ∷ []) u h = record { there = λ k. absurd (omega (arith, k)); absent = λ k. refl; built = refl }
+one_barrel name shape height width (a ∷ b ∷ []) u h = record { there = λ k. absurd (omega (arith, k)); absent = λ k. refl; built = refl }
 one_barrel name shape height width (a ∷ b ∷ text ∷ rest) u h =
     let read = and_then_ok (needed_of (barrels_in text) 211 6) (λ barrels. cond {A = Result (Unit {0}) Fault} (barrels == 1) (Ok tt) (Err (record { number = 401; place = 6 }))) u h in
     let few = few_ok (whole_of text) read.0 (needed_ok (barrels_in text) 211 6 read.0 read.1) in
@@ -69,6 +69,7 @@ one_barrel name shape height width (a ∷ b ∷ text ∷ rest) u h =
     record {
       there = λ k. (subst (λ (n : ℕ). IsWhole text n) is_one (field_told 1 9 text read.0 few.0), omega arith, omega arith);
       absent = λ k. absurd (omega (arith, k));
+      built = refl;
     }
 
 -- what the items that were read say

@@ -16,10 +16,11 @@ use Rattle.inp_lines.specs.Readings.{is_long}
 use Rattle.inp_objects.specs.Objects.{link_names}
 use Rattle.inp_tables.specs.SectionLines.{is_section_section}
 
--- The number of barrels by the seventh item, which may be missing. Source: User's Manual, section [XSECTIONS].
+-- The number of barrels by the seventh item, which may be missing; only one is built. Source: User's Manual, section [XSECTIONS].
 pub record AreBarrels (tokens : List (List ℕ)) (barrels : ℕ) : Type 0 where
   pub there : 6 < length tokens → IsWhole (token_at tokens 6) barrels × (1 ≤ barrels) × (barrels ≤ 100)
   pub absent : length tokens ≤ 6 → barrels ≡ 1
+  pub built : barrels ≡ 1
 
 -- A line means this cross-section: a rectangular open channel of a full height of 1,000 µm or more, a width, and a
 -- number of barrels. Source: User's Manual, section [XSECTIONS].

@@ -10,7 +10,7 @@ use Rattle.std.proofs.lemmas.Bool.Decides.{nat_tests}
 use Rattle.std.proofs.lemmas.Int.{ints}
 use Rattle.fixed_num.specs.Number.{past_digits}
 use Rattle.inp_values.specs.Field.{IsField, field_of}
-use Rattle.inp_values.specs.Clock.{IsClockEnd, minutes_alone, with_seconds, IsClock, IsTimeOfDay, sixtieths_of, seconds_in, clock_end_of, ms_in, clock_of, below_a_day, time_of_day_of}
+use Rattle.inp_values.specs.Clock.{IsEven, IsClockEnd, minutes_alone, with_seconds, IsClock, IsTimeOfDay, sixtieths_of, seconds_in, clock_end_of, ms_in, clock_of, below_a_day, time_of_day_of}
 use Rattle.inp_values.proofs.FieldLemmas.{Stops, chosen, same_some, both_true, field_is, field_told, front_digits, front_past, front_parts}
 
 -- ---- two digits
@@ -240,3 +240,19 @@ some_time text (Some ms) e = time_told text ms (sym e)
 pub none_time : (text : List ℕ) (o : Option ℤ) → o ≡ time_of_day_of text → IfNone o ((ms : ℤ) → ¬ (IsTimeOfDay text ms))
 none_time text None e = λ ms time. let clash : None ≡ Some ms = e ∙ time_is text ms time in absurd (cc)
 none_time text (Some ms) e = tt
+
+-- ---- even numbers
+-- a thousand times a number is even
+even_thousands : (ms : ℤ) (n : ℕ) → ms ≡ pos (n * 1000) → IsEven ms
+even_thousands ms n e = subst IsEven (sym e) (omega arith)
+
+pub clock_even : (text : List ℕ) (ms : ℤ) → IsClock text ms → IsEven ms
+clock_even text ms is = even_thousands ms (is.h * 3600 + is.m * 60 + is.s) is.value
+
+pub even_clock : (text : List ℕ) (o : Option ℤ) → IfSome o (IsClock text) → IfSome o IsEven
+even_clock text None some = tt
+even_clock text (Some ms) some = clock_even text ms some
+
+pub even_time : (text : List ℕ) (o : Option ℤ) → IfSome o (IsTimeOfDay text) → IfSome o IsEven
+even_time text None some = tt
+even_time text (Some ms) some = clock_even text ms some.clock

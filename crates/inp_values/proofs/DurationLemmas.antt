@@ -1,11 +1,12 @@
 -- Hours and seconds, read as a clock or as a number.
-use Rattle.std.proofs.Common.{◌≡◌, ℕ, ◌^◌, ◌*◌, inl, inr, List, refl, ap, ℤ, pos, ◌+ℤ◌}
+use Rattle.std.proofs.Common.{◌≡◌, ℕ, ◌^◌, ◌*◌, inl, inr, List, refl, ap, ℤ, pos, ◌+ℤ◌, sym, subst, arith, negsuc}
 use Rattle.std.specs.Option.{IfSome, IfNone, option_or, option_map}
 use Rattle.std.specs.declared.option.Option.{Option}
 use Rattle.std.specs.declared.option.Option.TheVariants.{None, Some}
 use Rattle.fixed_num.specs.Decimal.{IsStored, scaled_of}
 use Rattle.fixed_num.specs.Ranges.{IsBetween}
-use Rattle.inp_values.specs.Clock.{IsClock, clock_of}
+use Rattle.inp_values.specs.Clock.{IsClock, IsEven, clock_of}
+use Rattle.inp_values.proofs.ClockLemmas.{clock_even}
 use Rattle.inp_values.specs.Duration.{hours_unit, seconds_unit, IsHours, IsSeconds, hours_of, seconds_of}
 
 -- a clock comes first
@@ -56,3 +57,13 @@ seconds_none text (Some half) p e clock number = rw e tt
 pub half_range : (text : List ℕ) (o : Option ℤ) → IfSome o (IsStored seconds_unit text) → IfSome o (λ half. IsBetween (pos 0) half (pos (5 * 10 ^ 11)))
 half_range text None some = tt
 half_range text (Some half) some = some.range
+
+-- twice a number that isn't below 0
+even_twice : (half : ℤ) → IsBetween (pos 0) half (pos (5 * 10 ^ 11)) → IsEven (half +ℤ half)
+even_twice (pos n) range = omega arith
+even_twice (negsuc n) range = absurd range.from.le
+
+pub even_seconds : (text : List ℕ) (o : Option ℤ) → IfSome o (IsSeconds text) → IfSome o IsEven
+even_seconds text None some = tt
+even_seconds text (Some ms) (inl is) = clock_even text ms is
+even_seconds text (Some ms) (inr is) = subst IsEven (sym is.2) (even_twice is.0 is.1.range)

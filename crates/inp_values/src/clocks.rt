@@ -1,6 +1,6 @@
 ghost use Rattle.std.specs.Prelude.{◌≡◌, ℤ, pos, ◌<◌, ◌^◌, IfSome, IfNone, Some};
 ghost use Rattle.fixed_num.specs.Ranges.{IsBetween};
-ghost use Rattle.inp_values.specs.Clock.{IsClock, IsTimeOfDay, below_a_day, clock_end_of, clock_of, ms_in, seconds_in, sixtieths_of, time_of_day_of};
+ghost use Rattle.inp_values.specs.Clock.{IsClock, IsEven, IsTimeOfDay, below_a_day, clock_end_of, clock_of, ms_in, seconds_in, sixtieths_of, time_of_day_of};
 
 use crate::wholes::{field, split_digits};
 
@@ -11,6 +11,7 @@ pub fn clock(text: &[u8]) -> Option<i64>
     ensures none { IfNone result ((ms : ℤ) → ¬ (IsClock text.now ms)) }
     ensures value { result ≡ clock_of text.now }
     ensures range { IfSome result (λ ms. IsBetween (pos 0) ms (pos 359_999_999_000)) }
+    ensures even { IfSome result IsEven }
 {
     let (front, rest) = split_digits(text);
     ms_of(field(front, 1, 5), clock_end(rest))
@@ -22,6 +23,7 @@ pub fn time_of_day(text: &[u8]) -> Option<i64>
     ensures none { IfNone result ((ms : ℤ) → ¬ (IsTimeOfDay text.now ms)) }
     ensures value { result ≡ time_of_day_of text.now }
     ensures range { IfSome result (λ ms. IsBetween (pos 0) ms (pos 86_399_999)) }
+    ensures even { IfSome result IsEven }
 {
     below_a_day(clock(text))
 }

@@ -1,6 +1,7 @@
 ghost use Rattle.std.specs.Prelude.{◌≡◌, ℤ, pos, ◌+ℤ◌, ◌*◌, ◌^◌, IfSome, IfNone};
 ghost use Rattle.std.specs.Option.{option_map};
 ghost use Rattle.fixed_num.specs.Ranges.{IsBetween};
+ghost use Rattle.inp_values.specs.Clock.{IsEven};
 ghost use Rattle.inp_values.specs.Duration.{IsHours, IsSeconds, hours_of, seconds_of};
 
 use crate::clocks::clock;
@@ -41,6 +42,7 @@ pub fn seconds(text: &[u8]) -> Option<i64>
     ensures none { IfNone result ((ms : ℤ) → ¬ (IsSeconds text.now ms)) }
     ensures value { result ≡ seconds_of text.now }
     ensures range { IfSome result (λ ms. IsBetween (pos 0) ms (pos (10 ^ 12))) }
+    ensures even { IfSome result IsEven }
 {
     match clock(text) {
         Some(ms) => Some(ms),

@@ -1,6 +1,6 @@
 use Rattle.std.proofs.Common.{rules, ap, ◌∙◌, ◌+ℤ◌, ℤ, FitsSigned, w64, to_z-of_z}
 use Rattle.std.specs.Option.{option_map}
-use Rattle.inp_values.proofs.DurationLemmas.{seconds_clock, seconds_number, seconds_some, seconds_none}
+use Rattle.inp_values.proofs.DurationLemmas.{seconds_clock, seconds_number, seconds_some, seconds_none, even_seconds}
 use Rattle.inp_values.proofs.durations.seconds.Goals as goal
 
 pub returns-in-Some-clause-value : goal.returns-in-Some-clause-value
@@ -21,3 +21,6 @@ returns-in-None-clause-some c =
 pub returns-in-None-clause-none : goal.returns-in-None-clause-none
 returns-in-None-clause-none c =
     seconds_none c.args.text.now c.scaled_decimal.result c.doubled.result c.doubled.ensures.value c.in-None.ensures.none c.scaled_decimal.ensures.none
+
+pub returns-in-None-clause-even : goal.returns-in-None-clause-even
+returns-in-None-clause-even c = even_seconds c.args.text.now c.doubled.result (returns-in-None-clause-some c)
