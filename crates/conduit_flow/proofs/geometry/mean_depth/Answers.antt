@@ -1,0 +1,27 @@
+use Rattle.std.proofs.Common.{◌≡◌, ◌*◌, ◌^◌, pos}
+use Rattle.std.proofs.lemmas.Int.{to_z-of_z}
+use Rattle.fixed_num.specs.Ranges.{IsWithin}
+use Rattle.fixed_num.proofs.Bounds.{within_add, within_between, within_quo, fits64, fits128}
+use Rattle.conduit_flow.specs.Geometry.{mean_depth_of}
+use Rattle.conduit_flow.proofs.geometry.mean_depth.Goals as goal
+use Rattle.conduit_flow.proofs.geometry.mean_depth.Goals.{After-quo}
+
+value : (c : After-quo) → c.quo.result ≡ mean_depth_of c.args.conduit.now c.args.near c.args.far
+unfolding mean_depth_of
+value c =
+    let a = within_between c.depth-depth1.ensures.range in
+    let b = within_between c.depth-depth2.ensures.range in
+    let d1 = simp (to_z-of_z, c.ranges.near, fits64 c.requires.conduit.z1 tt) at c.depth-depth1.ensures.value in
+    let d2 = simp (to_z-of_z, c.ranges.far, fits64 c.requires.conduit.z2 tt) at c.depth-depth2.ensures.value in
+    let q = simp (to_z-of_z, fits64 a tt, fits128 a tt, fits64 b tt, fits128 b tt, fits128 (within_add a b) tt) at c.quo.ensures.value in
+    cc (d1, d2, q)
+
+small : (c : After-quo) → IsWithin (8 * 10 ^ 10) c.quo.result
+small c =
+    let a = within_between c.depth-depth1.ensures.range in
+    let b = within_between c.depth-depth2.ensures.range in
+    let q = simp (to_z-of_z, fits64 a tt, fits128 a tt, fits64 b tt, fits128 b tt, fits128 (within_add a b) tt) at c.quo.ensures.value in
+    rw q (within_quo (pos 2) (within_add a b))
+
+pub returns : goal.returns
+returns c = record { value = simp (to_z-of_z, fits128 (small c) tt, fits64 (small c) tt) (value c) }

@@ -1,0 +1,5 @@
+pub mod Conduits
+pub mod Geometry
+pub mod Momentum
+pub mod Limits
+pub mod ConduitShare

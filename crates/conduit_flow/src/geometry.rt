@@ -1,0 +1,161 @@
+// The water that stands in a conduit.
+ghost use Rattle.std.specs.Prelude.{◌≡◌, ◌*◌, ◌^◌, ℤ, pos};
+ghost use Rattle.fixed_num.specs.Ranges.{IsBetween, IsWithin};
+ghost use Rattle.conduit_flow.specs.Conduits.{IsConduit, IsConduitTable};
+ghost use Rattle.conduit_flow.specs.Geometry.{surface_of, depth_of, mean_depth_of, mid_area_of, prism_of, volume_of, ends_of, middle_of, end_area_of, EndsInRange, MiddleInRange};
+
+use crate::conduit::ConduitData;
+use fixed_num::quo;
+use xsect_tables::Table;
+
+// The two ends of a conduit: the water surfaces, the depths and the widths there, in µm.
+#[derive(Clone, Copy, Debug)]
+pub(crate) struct Ends {
+    pub(crate) surface1: i64,
+    pub(crate) surface2: i64,
+    pub(crate) depth1: i64,
+    pub(crate) depth2: i64,
+    pub(crate) width1: i64,
+    pub(crate) width2: i64,
+}
+
+// The section in the middle of a conduit: area of flow (mm²), width and hydraulic radius (µm).
+#[derive(Clone, Copy, Debug)]
+pub(crate) struct Middle {
+    pub(crate) area: i64,
+    pub(crate) width: i64,
+    pub(crate) radius: i64,
+}
+
+/// The area of flow in the middle of a conduit, in mm², from the heads of the nodes at its ends in µm.
+///
+/// Source: Reference Manual volume II, chapter 3.
+#[tactic(auto, using(fixed_num::proofs::Bounds::casts), unfolding(crate::specs::Geometry::mid_area_of))]
+pub fn mid_area(conduit: &ConduitData, table: &Table, near: i64, far: i64) -> i64
+    requires conduit { IsConduit conduit.now }
+    requires table { IsConduitTable table.now }
+    requires near { IsWithin (2 * 10 ^ 10) near }
+    requires far { IsWithin (2 * 10 ^ 10) far }
+    ensures value { result ≡ mid_area_of conduit.now table.now near far }
+    ensures range { IsBetween (pos 0) result (pos (10 ^ 11)) }
+{
+    table.area(mean_depth(conduit, near, far))
+}
+
+/// The volume of water in a conduit, in mm³, from the heads of the nodes at its ends in µm.
+///
+/// Source: Reference Manual volume II, chapter 3.
+#[tactic(auto, using(fixed_num::proofs::Bounds::casts), unfolding(crate::specs::Geometry::volume_of))]
+pub fn conduit_volume(conduit: &ConduitData, table: &Table, near: i64, far: i64) -> i128
+    requires conduit { IsConduit conduit.now }
+    requires table { IsConduitTable table.now }
+    requires near { IsWithin (2 * 10 ^ 10) near }
+    requires far { IsWithin (2 * 10 ^ 10) far }
+    ensures value { result ≡ volume_of conduit.now table.now near far }
+    ensures range { IsBetween (pos 0) result (pos (10 ^ 22)) }
+{
+    prism(
+        mid_area(conduit, table, near, far),
+        conduit.length,
+        table.barrels(),
+    )
+}
+
+// The volume of an area of flow along a length in a number of barrels.
+#[tactic(auto, using(fixed_num::proofs::Bounds::casts), unfolding(crate::specs::Geometry::prism_of))]
+fn prism(area: i64, length: i64, barrels: i64) -> i128
+    requires area { IsBetween (pos 0) area (pos (10 ^ 11)) }
+    requires length { IsBetween (pos 10_000) length (pos (10 ^ 11)) }
+    requires barrels { IsBetween (pos 1) barrels (pos 100) }
+    ensures value { result ≡ prism_of area length barrels }
+    ensures range { IsBetween (pos 0) result (pos (10 ^ 22)) }
+{
+    barrels as i128 * quo(area as i128 * length as i128, 1_000)
+}
+
+// The water surface at an end.
+#[tactic(auto, using(fixed_num::proofs::Bounds::casts), unfolding(crate::specs::Geometry::surface_of))]
+fn surface(head: i64, invert: i64) -> i64
+    requires head { IsWithin (2 * 10 ^ 10) head }
+    requires invert { IsWithin (2 * 10 ^ 10) invert }
+    ensures value { result ≡ surface_of head invert }
+    ensures range { IsWithin (2 * 10 ^ 10) result }
+{
+    head.max(invert)
+}
+
+// The depth of water at an end.
+#[tactic(auto, using(fixed_num::proofs::Bounds::casts), unfolding(crate::specs::Geometry::depth_of, crate::specs::Geometry::surface_of))]
+fn depth(head: i64, invert: i64) -> i64
+    requires head { IsWithin (2 * 10 ^ 10) head }
+    requires invert { IsWithin (2 * 10 ^ 10) invert }
+    ensures value { result ≡ depth_of head invert }
+    ensures range { IsBetween (pos 0) result (pos (4 * 10 ^ 10)) }
+{
+    head.max(invert) - invert
+}
+
+// The mean of the two depths.
+#[tactic(auto, using(fixed_num::proofs::Bounds::casts), unfolding(crate::specs::Geometry::mean_depth_of))]
+pub(crate) fn mean_depth(conduit: &ConduitData, near: i64, far: i64) -> i64
+    requires conduit { IsConduit conduit.now }
+    requires near { IsWithin (2 * 10 ^ 10) near }
+    requires far { IsWithin (2 * 10 ^ 10) far }
+    ensures value { result ≡ mean_depth_of conduit.now near far }
+{
+    let depth1 = depth(near, conduit.z1);
+    let depth2 = depth(far, conduit.z2);
+    quo(depth1 as i128 + depth2 as i128, 2) as i64
+}
+
+// The water surfaces at the two ends, the depths and the widths there.
+#[tactic(auto, using(fixed_num::proofs::Bounds::casts), unfolding(crate::specs::Geometry::ends_of))]
+pub(crate) fn ends_at(conduit: &ConduitData, table: &Table, near: i64, far: i64) -> Ends
+    requires conduit { IsConduit conduit.now }
+    requires near { IsWithin (2 * 10 ^ 10) near }
+    requires far { IsWithin (2 * 10 ^ 10) far }
+    ensures value { result ≡ ends_of conduit.now table.now near far }
+    ensures range { EndsInRange result }
+{
+    let depth1 = depth(near, conduit.z1);
+    let depth2 = depth(far, conduit.z2);
+    Ends {
+        surface1: surface(near, conduit.z1),
+        surface2: surface(far, conduit.z2),
+        depth1,
+        depth2,
+        width1: table.width(depth1),
+        width2: table.width(depth2),
+    }
+}
+
+// The section at the mean depth.
+#[tactic(auto, using(fixed_num::proofs::Bounds::casts), unfolding(crate::specs::Geometry::middle_of))]
+pub(crate) fn middle_at(table: &Table, depth: i64) -> Middle
+    requires table { IsConduitTable table.now }
+    ensures value { result ≡ middle_of table.now depth }
+    ensures range { MiddleInRange result }
+{
+    Middle {
+        area: table.area(depth),
+        width: table.width(depth),
+        radius: table.radius(depth),
+    }
+}
+
+// The water surface that a conduit adds to the node at one end.
+#[tactic(auto, using(fixed_num::proofs::Bounds::casts), unfolding(crate::specs::Geometry::end_area_of))]
+pub(crate) fn end_area(width: i64, middle_width: i64, length: i64, barrels: i64) -> i64
+    requires width { IsBetween (pos 0) width (pos (10 ^ 12)) }
+    requires middle { IsBetween (pos 0) middle_width (pos (10 ^ 12)) }
+    requires length { IsBetween (pos 10_000) length (pos (10 ^ 11)) }
+    requires barrels { IsBetween (pos 1) barrels (pos 100) }
+    ensures value { result ≡ end_area_of width middle_width length barrels }
+    ensures range { IsBetween (pos 0) result (pos (5 * 10 ^ 12)) }
+{
+    let one = quo(
+        (width as i128 + middle_width as i128) * length as i128,
+        4_000_000,
+    );
+    5_000_000_000_000_i128.min(barrels as i128 * one) as i64
+}
