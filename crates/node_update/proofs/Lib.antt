@@ -1,0 +1,4 @@
+pub mod GreatestLemmas
+pub mod HeightLemmas
+pub mod GainLemmas
+pub mod UpdateLemmas
