@@ -1,0 +1,3 @@
+pub mod ListLemmas
+pub mod BuildLemmas
+pub mod ValueLemmas

@@ -1,0 +1,62 @@
+-- What good hydraulics give lies in its ranges, and a junction stays below its top: for the crates that add up volumes.
+use Rattle.std.proofs.Common.{◌≡◌, ℕ, ◌^◌, ◌<◌, Bool, length, ℤ, pos, ◌≤ℤ◌, unsigned_abs, arith}
+use Rattle.std.proofs.lemmas.Int.{ints}
+use Rattle.conduit_flow.proofs.RangeLemmas.{prism-between}
+use Rattle.conduit_flow.specs.Conduits.{IsConduit, IsConduitTable}
+use Rattle.conduit_flow.specs.Geometry.{mean_depth_of, mid_area_of, volume_of}
+use Rattle.conduit_flow.specs.declared.conduit.ConduitData.{ConduitData}
+use Rattle.fixed_num.specs.Ranges.{IsBetween, IsWithin}
+use Rattle.node_update.proofs.GainLemmas.{gain_within, inflow_between, outflow_between}
+use Rattle.node_update.proofs.UpdateLemmas.{next_place, flood_between, flood_most, volume_within}
+use Rattle.node_update.specs.NodeUpdate.{gain_of, flood_of, volume_of as node_volume_of}
+use Rattle.node_update.specs.declared.node_law.HeadRule.TheVariants.{Junction as JunctionRule}
+use Rattle.phase_law.specs.Ranges.{HeadInRange, NodeInRange, SumsInRange}
+use Rattle.phase_law.specs.declared.values.NodeFixed.{NodeFixed}
+use Rattle.xsect_tables.proofs.TableLemmas.{area_between}
+use Rattle.xsect_tables.specs.SectionTable.{SectionTable}
+use Rattle.link_eval.specs.Good.{IsGood}
+use Rattle.link_eval.specs.Hydraulics.{Hydraulics, node_law_at, link_law_at, volume_at, mid_area_at, law_of}
+use Rattle.link_eval.specs.LawGood.{head_in, fixed_in}
+
+-- ---- a conduit
+at_most : (a b c : ℤ) → IsBetween (pos 0) a b → b ≤ℤ c → IsBetween (pos 0) a c
+at_most a b c h k = let l = h.from in let m = h.to in record { from = l; to = omega (arith, ints) }
+
+mid_area_of-between : (conduit : ConduitData) {table : SectionTable} (near far : ℤ) → IsConduitTable table → IsBetween (pos 0) (mid_area_of conduit table near far) (pos (10 ^ 11))
+unfolding mid_area_of
+mid_area_of-between conduit {table} near far t = at_most _ _ (pos (10 ^ 11)) (area_between (mean_depth_of conduit near far) t.rows) t.full.to
+
+volume_of-between : {conduit : ConduitData} {table : SectionTable} (near far : ℤ) → IsConduit conduit → IsConduitTable table → IsBetween (pos 0) (volume_of conduit table near far) (pos (10 ^ 22))
+unfolding volume_of
+volume_of-between {conduit} near far c t = prism-between (mid_area_of-between conduit near far t) c.length t.rows.barrels
+
+-- ---- a link, by its number
+pub mid_area_at-between : (h : Hydraulics) (l : ℕ) (near far : ℤ) → IsGood h → l < length h.links → IsBetween (pos 0) (mid_area_at h l near far) (pos (10 ^ 11))
+unfolding mid_area_at
+mid_area_at-between h l near far g inside = mid_area_of-between (link_law_at h l).conduit near far (g.links l inside).table
+
+pub volume_at-between : (h : Hydraulics) (l : ℕ) (near far : ℤ) → IsGood h → l < length h.links → IsBetween (pos 0) (volume_at h l near far) (pos (10 ^ 22))
+unfolding volume_at
+volume_at-between h l near far g inside = volume_of-between near far (g.links l inside).conduit (g.links l inside).table
+
+-- ---- a node, by its number
+pub node_volume-within : (h : Hydraulics) (n : ℕ) {head : ℤ} → IsGood h → n < length h.nodes → HeadInRange (law_of h) head → IsWithin (10 ^ 21) (node_volume_of (node_law_at h n) head)
+node_volume-within h n g inside r = volume_within (g.nodes n inside) (head_in h r)
+
+pub node_gain-within : (h : Hydraulics) {fixed : NodeFixed} {i o a : ℤ} → NodeInRange (law_of h) fixed → SumsInRange i o a → IsWithin (10 ^ 24) (gain_of fixed i o)
+node_gain-within h f s = gain_within (fixed_in h f) (inflow_between s) (outflow_between s)
+
+pub node_flood-between : (h : Hydraulics) (n : ℕ) {fixed : NodeFixed} {i o a : ℤ} (last : ℤ) → IsGood h → n < length h.nodes → NodeInRange (law_of h) fixed → SumsInRange i o a
+    → IsBetween (pos 0) (flood_of (node_law_at h n) fixed i o a last) (pos (10 ^ 25))
+node_flood-between h n last g inside f s = flood_between last (g.nodes n inside) (fixed_in h f) s
+
+-- from a head that is not above the top no more is lost than comes in
+pub node_flood-most : (h : Hydraulics) (n : ℕ) (fixed : NodeFixed) {i o a : ℤ} (last : ℤ) → IsGood h → n < length h.nodes → SumsInRange i o a → fixed.h_old ≤ℤ (node_law_at h n).top
+    → flood_of (node_law_at h n) fixed i o a last ≤ℤ pos (unsigned_abs (gain_of fixed i o))
+node_flood-most h n fixed last g inside s k = flood_most fixed last (g.nodes n inside) s k
+
+-- a junction whose last head was not above its top stays there
+pub node_place : (h : Hydraulics) (n : ℕ) (fixed : NodeFixed) (first : Bool) (i o a last : ℤ) → IsGood h → n < length h.nodes → (node_law_at h n).rule ≡ JunctionRule → last ≤ℤ (node_law_at h n).top
+    → ((law_of h).next n fixed first i o a last).head ≤ℤ (node_law_at h n).top
+unfolding law_of
+node_place h n fixed first i o a last g inside e k = next_place fixed first i o a last (g.nodes n inside) e k

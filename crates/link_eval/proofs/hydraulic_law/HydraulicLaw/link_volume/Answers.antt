@@ -1,0 +1,13 @@
+use Rattle.std.proofs.Common.{◌∙◌, ap}
+use Rattle.std.proofs.lemmas.Int.{to_z-of_z}
+use Rattle.conduit_flow.specs.Geometry.{volume_of}
+use Rattle.fixed_num.proofs.Bounds.{within_between, fits128}
+use Rattle.link_eval.specs.Hydraulics.{LinkLaw, volume_at}
+use Rattle.link_eval.proofs.hydraulic_law.HydraulicLaw.link_volume.Goals as goal
+
+pub returns-clause-value : goal.returns-clause-value
+unfolding volume_at
+returns-clause-value c =
+    let value = simp (to_z-of_z, c.ranges.near, c.ranges.far) at c.conduit_volume.ensures.value in
+    simp (to_z-of_z, fits128 (within_between c.conduit_volume.ensures.range) tt)
+    (value ∙ ap (λ (l : LinkLaw). volume_of l.conduit l.table c.args.near c.args.far) c.link-law.ensures.value)

@@ -1,0 +1,3 @@
+pub mod Hydraulics
+pub mod Good
+pub mod LawGood

@@ -1,0 +1,79 @@
+// The law of a network, with what always holds of it.
+ghost use Rattle.std.specs.Prelude.{◌≡◌, ◌*◌, ◌^◌, ◌<◌, length, pos, IfOk};
+ghost use Rattle.fixed_num.specs.Ranges.{IsBetween, IsWithin};
+ghost use Rattle.link_eval.specs.Good.{IsGood, IsGoodLink};
+ghost use Rattle.node_update.specs.NodeLaws.{IsNodeLaw};
+ghost use Rattle.link_eval.specs.Hydraulics.{IsHydraulic, hydraulics_of, node_law_at, link_law_at, volume_at, mid_area_at};
+
+use crate::build::{link_laws, node_laws};
+use crate::hydraulics::Hydraulics;
+use crate::link_law::LinkLaw;
+use conduit_flow::{conduit_volume, mid_area};
+use net_types::{OutOfMemory, Project};
+use node_update::NodeLaw;
+use std::alloc::Global;
+
+/// The hydraulics of a network, whose nodes and links all lie in their ranges.
+#[derive(Debug, Drop)]
+pub struct HydraulicLaw {
+    pub hydraulics: Hydraulics,
+    pub ghost good: { IsGood hydraulics },
+}
+
+impl HydraulicLaw {
+    /// The hydraulics of a project, which is a network of junctions, outfalls of fixed stage and conduits.
+    ///
+    /// Source: Reference Manual volume II, chapter 3.
+    pub fn build(alloc: Global, project: &Project) -> Result<HydraulicLaw, OutOfMemory>
+        requires { IsHydraulic project.now }
+        ensures { IfOk result (λ law. law.hydraulics ≡ hydraulics_of project.now) }
+    {
+        let nodes = node_laws(alloc, project)?;
+        let links = link_laws(alloc, project)?;
+        Ok(HydraulicLaw {
+            hydraulics: Hydraulics { nodes, links },
+        })
+    }
+
+    /// The law of a node, by its number.
+    pub fn node(&self, node: u32) -> &NodeLaw
+        requires { node < length self.now.hydraulics.nodes }
+        ensures value { result.now ≡ node_law_at self.now.hydraulics node }
+        ensures range { IsNodeLaw result.now }
+    {
+        &self.hydraulics.nodes.as_slice()[node as usize]
+    }
+
+    /// The volume of water in a link, in mm³, from the heads at its ends in µm.
+    pub fn link_volume(&self, link: u32, near: i64, far: i64) -> i128
+        requires link { link < length self.now.hydraulics.links }
+        requires near { IsWithin (2 * 10 ^ 10) near }
+        requires far { IsWithin (2 * 10 ^ 10) far }
+        ensures value { result ≡ volume_at self.now.hydraulics link near far }
+        ensures range { IsBetween (pos 0) result (pos (10 ^ 22)) }
+    {
+        let law = self.link(link);
+        conduit_volume(&law.conduit, &law.table, near, far)
+    }
+
+    /// The area of flow in the middle of a link, in mm², from the heads at its ends in µm.
+    pub fn mid_area(&self, link: u32, near: i64, far: i64) -> i64
+        requires link { link < length self.now.hydraulics.links }
+        requires near { IsWithin (2 * 10 ^ 10) near }
+        requires far { IsWithin (2 * 10 ^ 10) far }
+        ensures value { result ≡ mid_area_at self.now.hydraulics link near far }
+        ensures range { IsBetween (pos 0) result (pos (10 ^ 11)) }
+    {
+        let law = self.link(link);
+        mid_area(&law.conduit, &law.table, near, far)
+    }
+
+    // The law of a link, by its number.
+    pub(crate) fn link(&self, link: u32) -> &LinkLaw
+        requires { link < length self.now.hydraulics.links }
+        ensures value { result.now ≡ link_law_at self.now.hydraulics link }
+        ensures good { IsGoodLink (length self.now.hydraulics.nodes) result.now }
+    {
+        &self.hydraulics.links.as_slice()[link as usize]
+    }
+}
