@@ -1,5 +1,6 @@
 pub mod LoopLemmas
 pub mod SumLemmas
 pub mod RangeLemmas
+pub mod FlowLemmas
 pub mod TrialLemmas
 pub mod StepLemmas

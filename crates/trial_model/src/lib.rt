@@ -7,9 +7,11 @@
 //!
 //! The contracts that matter: [`trial_alone`] leaves `trial` of the state and gives its count of unsettled
 //! nodes (`specs/Trial.antt`), and [`step_alone`] ends where `IsEnd` says, which fits one end only
-//! (`specs/RoutingStep.antt`). Both leave a state that fits the law again (`specs/Fits.antt`).
+//! (`specs/RoutingStep.antt`). Both leave a state that fits the law again (`specs/Fits.antt`). [`sum_flows`]
+//! makes the inflows and outflows of a state the sums over its own flows, for the state before the first step.
 #![tactic(auto)]
 
+mod flow_sums;
 mod head_phase;
 mod link_phase;
 mod nets;
@@ -19,6 +21,7 @@ mod sums;
 mod tests;
 mod trial;
 
+pub use flow_sums::sum_flows;
 pub use nets::Nets;
 pub use step::{StepEnd, end_is_unique, step_alone, step_has_an_end};
 pub use trial::trial_alone;

@@ -10,7 +10,7 @@ use net_types::List;
 use phase_law::Share;
 
 /// The two directions of a flow: what goes forward, and what goes backward.
-fn split_flow(q: i64) -> (u64, u64)
+pub(crate) fn split_flow(q: i64) -> (u64, u64)
     ensures forward { result.0 ≡ forward q }
     ensures backward { result.1 ≡ backward q }
 {
@@ -32,7 +32,7 @@ fn add_at(list: &mut [i64], place: u32, amount: u64)
 }
 
 /// Adds an amount at each end of a link.
-fn add_pair(list: &mut [i64], near: u32, far: u32, at_near: u64, at_far: u64)
+pub(crate) fn add_pair(list: &mut [i64], near: u32, far: u32, at_near: u64, at_far: u64)
     requires near { near < length list.old }
     requires far { far < length list.old }
     requires at_near { at_near ≤ 10 ^ 13 }

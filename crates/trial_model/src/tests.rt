@@ -1,7 +1,9 @@
 ghost use Rattle.phase_law.specs.FortyLinks.{forty_links, forty_links_good};
 
+use crate::flow_sums::sum_flows;
 use crate::nets::Nets;
 use crate::step::{StepEnd, step_alone};
+use crate::sums::clear;
 use crate::trial::trial_alone;
 use net_types::OutOfMemory;
 use phase_law::{LinkFixed, NodeFixed, NodeNext, PhaseLaw, Share};
@@ -80,6 +82,17 @@ fn forty_links_add_up_and_settle(rt: HostRuntime) -> Result<(), OutOfMemory> {
         }
     );
     assert_eq!(rt; nets.inflows.as_slice(), [280, 0].as_slice());
+    Ok(())
+}
+
+#[test]
+fn flows_of_a_state_add_up(rt: HostRuntime) -> Result<(), OutOfMemory> {
+    let mut nets = Nets::with_room(rt.alloc(), 2, 40)?;
+    trial_alone(&FortyLinks, &mut nets, true);
+    clear(&mut nets.inflows);
+    sum_flows(&FortyLinks, &mut nets);
+    assert_eq!(rt; nets.inflows.as_slice(), [280, 0].as_slice());
+    assert_eq!(rt; nets.outflows.as_slice(), [0, 280].as_slice());
     Ok(())
 }
 

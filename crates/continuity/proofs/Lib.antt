@@ -1,0 +1,7 @@
+pub mod SumLemmas
+pub mod TotalLemmas
+pub mod LawLemmas
+pub mod NodeLemmas
+pub mod BalanceLemmas
+pub mod LinkLemmas
+pub mod StepLemmas

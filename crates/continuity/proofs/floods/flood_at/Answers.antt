@@ -1,0 +1,9 @@
+use Rattle.std.proofs.Common.{ℕ, ◌<◌, subst}
+use Rattle.continuity.proofs.LawLemmas.{nodes_is, fixed_in}
+use Rattle.continuity.proofs.floods.flood_at.Goals as goal
+
+pub node-requires : goal.node-requires
+node-requires c = subst (λ (k : ℕ). c.args.node < k) (nodes_is c.args.law.now.hydraulics) c.requires.node
+
+pub flood-requires-clause-fixed : goal.flood-requires-clause-fixed
+flood-requires-clause-fixed c = rw c.as_slice.ensures (fixed_in c.args.law.now.hydraulics (c.requires.after.nodes.each c.args.node c.requires.node))
