@@ -1,0 +1,3 @@
+pub mod PeakLemmas
+pub mod RowLemmas
+pub mod FigureLemmas

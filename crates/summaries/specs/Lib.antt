@@ -1,0 +1,3 @@
+pub mod Peaks
+pub mod Steps
+pub mod Figures
