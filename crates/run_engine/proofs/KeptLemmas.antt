@@ -1,0 +1,89 @@
+-- What a run keeps: at its beginning, and what callers see of it.
+use Rattle.std.proofs.Common.{◌≡◌, ◌∙◌, ℕ, zero, suc, ◌+◌, List, length, replicate, ℤ, pos, refl, sym, subst, arith}
+use Rattle.std.proofs.lemmas.Int.{ints}
+use Rattle.continuity.specs.Account.{account_of, floods_of}
+use Rattle.continuity.specs.Run.{Running}
+use Rattle.continuity.specs.StepOf.{IsBelowTops, IsStepOf}
+use Rattle.link_eval.specs.Good.{IsGood}
+use Rattle.link_eval.specs.Hydraulics.{hydraulics_of}
+use Rattle.link_eval.specs.declared.hydraulics.Hydraulics.{Hydraulics}
+use Rattle.net_types.specs.declared.account.StepAccount.{StepAccount}
+use Rattle.net_types.specs.declared.project.Project.{Project}
+use Rattle.report_writer.specs.declared.counts.RunCounts.{RunCounts}
+use Rattle.summaries.specs.Figures.{Figures}
+use Rattle.trial_model.specs.Fits.{Fits, number}
+use Rattle.trial_model.specs.Trial.{SumsOf}
+use Rattle.trial_model.specs.declared.nets.Nets.{Nets}
+use Rattle.trial_model.specs.declared.step.StepEnd.{StepEnd}
+use Rattle.run_engine.specs.Kept.{AreFloodsAt, IsKept, IsStateAt, IsTotalAt}
+use Rattle.run_engine.specs.Progress.{IsAt}
+use Rattle.run_engine.specs.Results.{account_at, end_at, floods_at, total_after}
+use Rattle.run_engine.specs.Runnable.{IsRunnable}
+use Rattle.run_engine.specs.States.{next_state, opening, project_law, state, step_end}
+use Rattle.run_engine.specs.Times.{length_of}
+use Rattle.run_engine.proofs.OpeningLemmas.{opening_fits, opening_sums}
+use Rattle.run_engine.proofs.OpeningTops.{opening_tops}
+use Rattle.run_engine.proofs.StateLemmas.{account_is, end_is_at, floods_more, state_more, state_none}
+use Rattle.run_engine.proofs.StepLemmas.{step_is}
+use Rattle.run_engine.proofs.SumsLemmas.{nodes_are, links_are}
+
+-- what callers see of a run that keeps these
+pub total_is : (project : Project) (k : ℕ) (running : Running) → IsTotalAt project k running → running.total ≡ total_after project k
+total_is project k running at = rw at.steps at at.total.total
+
+pub kept_at : {project : Project} {h : Hydraulics} {nets before : Nets} {floods : List ℤ} {sums : Figures} {total : Running} {counts : RunCounts} → IsKept project h nets before floods sums total counts
+    → IsAt (record { project = project; nets = nets; total = total.total; nodes = sums.nodes; links = sums.links; counts = counts }) counts.steps
+kept_at {project} {h} {nets} {before} {floods} {sums} {total} {counts} kept = record {
+  runnable = kept.runnable;
+  within = kept.within;
+  nets = kept.now.same;
+  total = total_is project counts.steps total kept.totalled;
+  nodes = nodes_are project counts.steps sums kept.summed;
+  links = links_are project counts.steps sums kept.summed;
+  counts = kept.counted.same;
+}
+
+-- two states that follow one another belong together
+pub states_step : (project : Project) (h : Hydraulics) (k : ℕ) (before after : Nets) (ms : ℤ) → h ≡ hydraulics_of project → IsStateAt project k before → IsStateAt project (k + 1) after
+    → ms ≡ length_of project.options k → IsStepOf h before after ms
+states_step project h k before after ms law at next length = rw (law, at.same, next.same, length, state_more project k) (step_is project (length_of project.options k) (state project k))
+
+-- the account of the step between them
+pub account_here : (project : Project) (h : Hydraulics) (k : ℕ) (before after : Nets) (ms : ℤ) (account : StepAccount) → h ≡ hydraulics_of project → IsStateAt project k before → IsStateAt project (k + 1) after
+    → ms ≡ length_of project.options k → account ≡ account_of h before after ms → account ≡ account_at project k
+account_here project h k before after ms account law at next length is = is ∙ rw (law, at.same, next.same, length) (sym (account_is project k))
+
+-- the floods of the step to a state
+pub floods_here : (project : Project) (h : Hydraulics) (k : ℕ) (after : Nets) (floods : List ℤ) → h ≡ hydraulics_of project → IsStateAt project (k + 1) after → floods ≡ floods_of h after → floods ≡ floods_at project (k + 1)
+floods_here project h k after floods law next is = is ∙ rw (law, next.same) (sym (floods_more project k))
+
+-- the step from a state, and how it ends
+pub state_next : (project : Project) (k : ℕ) (ms : ℤ) (old new : Nets) → old ≡ state project k → ms ≡ length_of project.options k → new ≡ next_state project ms old → new ≡ state project (k + 1)
+state_next project k ms old new at length next = next ∙ rw (length, at) (sym (state_more project k))
+
+pub end_here : (project : Project) (k : ℕ) (ms : ℤ) (old : Nets) (end : StepEnd) → old ≡ state project k → ms ≡ length_of project.options k → end ≡ step_end project ms old → end ≡ end_at project k
+end_here project k ms old end at length ended = ended ∙ rw (length, at) (sym (end_is_at project k))
+
+-- ---- the beginning
+pub opening_at : (project : Project) (nets : Nets) → IsGood (hydraulics_of project) → IsRunnable project → nets ≡ opening project → IsStateAt project 0 nets
+opening_at project nets good runnable is = record {
+  same = is ∙ sym (state_none project);
+  fits = subst (Fits (project_law project)) (sym is) (opening_fits project good runnable);
+  sums = subst (SumsOf (project_law project)) (sym is) (opening_sums project);
+  tops = subst (IsBelowTops (hydraulics_of project)) (sym is) (opening_tops project runnable);
+}
+
+zero_at : (count n : ℕ) → number (replicate count (pos 0)) n ≡ pos 0
+zero_at zero n = refl
+zero_at (suc count) zero = refl
+zero_at (suc count) (suc n) = zero_at count n
+
+no_floods : (project : Project) → floods_at project 0 ≡ replicate (length project.nodes) (pos 0)
+unfolding floods_at
+no_floods project = refl
+
+pub opening_floods : (project : Project) (floods : List ℤ) → floods ≡ replicate (length project.nodes) (pos 0) → AreFloodsAt project 0 floods
+opening_floods project floods is = record {
+  same = is ∙ sym (no_floods project);
+  range = λ n. rw (is, zero_at (length project.nodes) n) (record { from = omega (arith, ints); to = omega (arith, ints) });
+}

@@ -1,0 +1,49 @@
+-- The law of a project: its counts, its head limit and what follows for its links and nodes.
+use Rattle.std.proofs.Common.{◌≡◌, ℕ, ◌*◌, ◌^◌, ◌<◌, ℤ, length, subst, arith}
+use Rattle.std.proofs.lemmas.List.{length-map}
+use Rattle.std.proofs.lemmas.List.FromFn.{get_or-map-range_with_len, length-map-range_with_len}
+use Rattle.fixed_num.specs.Ranges.{IsWithin}
+use Rattle.link_eval.specs.Good.{IsGood}
+use Rattle.link_eval.specs.LawGood.{law_good}
+use Rattle.link_eval.specs.declared.hydraulics.Hydraulics.{Hydraulics}
+use Rattle.link_eval.specs.Hydraulics.{hydraulics_of, law_of, link_law_of, no_node_law, node_law_at}
+use Rattle.net_types.specs.declared.project.Project.{Project}
+use Rattle.node_update.specs.NodeLaws.{node_law_of}
+use Rattle.phase_law.specs.Laws.{IsLaw}
+use Rattle.phase_law.specs.Ranges.{HeadInRange}
+use Rattle.run_engine.specs.States.{project_law}
+
+-- as many nodes and links as the project has
+pub law_nodes : (project : Project) → (project_law project).nodes ≡ length project.nodes
+unfolding law_of hydraulics_of
+law_nodes project = length-map-range_with_len (node_law_of project) 0 (length project.nodes)
+
+pub law_links : (project : Project) → (project_law project).links ≡ length project.links
+unfolding law_of hydraulics_of
+law_links project = length-map project.links (link_law_of project.nodes project.options)
+
+-- the law of hydraulics that a law always holds is good
+pub project_good : (h : Hydraulics) → IsGood h → (project : Project) → h ≡ hydraulics_of project → IsGood (hydraulics_of project)
+project_good h good project e = subst (λ (x : Hydraulics). IsGood x) e good
+
+pub project_law_good : (project : Project) → IsGood (hydraulics_of project) → IsLaw (project_law project)
+project_law_good project good = law_good (hydraulics_of project) good
+
+-- heads are within 2·10^10 µm
+pub head_within : (h : Hydraulics) {head : ℤ} → HeadInRange (law_of h) head → IsWithin (2 * 10 ^ 10) head
+unfolding law_of
+head_within h r = record { within = r.within }
+
+pub head_in : (h : Hydraulics) {head : ℤ} → IsWithin (2 * 10 ^ 10) head → HeadInRange (law_of h) head
+unfolding law_of
+head_in h r = record { within = r.within }
+
+-- the links of a law
+pub link_in : (h : Hydraulics) (l : ℕ) → l < (law_of h).links → l < length h.links
+unfolding law_of
+link_in h l inside = inside
+
+-- the law of a node by its number
+pub node_law_is : (project : Project) (n : ℕ) → n < length project.nodes → node_law_at (hydraulics_of project) n ≡ node_law_of project n
+unfolding hydraulics_of node_law_at
+node_law_is project n inside = get_or-map-range_with_len (node_law_of project) 0 (length project.nodes) n n no_node_law inside (omega arith)

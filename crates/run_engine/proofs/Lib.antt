@@ -1,0 +1,12 @@
+pub mod TimeLemmas
+pub mod FillLemmas
+pub mod LawLemmas
+pub mod OpeningLemmas
+pub mod OpeningTops
+pub mod PreparedLemmas
+pub mod StepLemmas
+pub mod StateLemmas
+pub mod SumsLemmas
+pub mod KeptLemmas
+pub mod ReportLemmas
+pub mod RoomLemmas

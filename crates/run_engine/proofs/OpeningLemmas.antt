@@ -1,0 +1,224 @@
+-- The opening state: its parts, its ranges and its sums.
+use Rattle.std.proofs.Common.{◌≡◌, ◌∙◌, ℕ, ◌*◌, ◌^◌, ◌<◌, ◌≤◌, ℤ, pos, List, length, replicate, refl, sym, subst, ap, arith}
+use Rattle.std.proofs.lemmas.Int.{ints}
+use Rattle.std.proofs.lemmas.List.{get_or-replicate, length-replicate}
+use Rattle.std.proofs.lemmas.List.Elements.{All-get_or}
+use Rattle.std.proofs.lemmas.List.FromFn.{length-map-range_with_len}
+use Rattle.fixed_num.specs.Ranges.{IsBetween, IsWithin}
+use Rattle.fixed_num.proofs.Bounds.{le_number, within_add, within_between, within_cut, within_max, within_minus, within_number, within_up}
+use Rattle.link_eval.specs.Good.{IsGood}
+use Rattle.link_eval.specs.declared.hydraulics.Hydraulics.{Hydraulics}
+use Rattle.link_eval.specs.Hydraulics.{hydraulics_of, law_of}
+use Rattle.net_types.specs.declared.network.NodeKind.{NodeKind}
+use Rattle.net_types.specs.declared.network.NodeKind.TheVariants.{Junction, Outfall, Storage}
+use Rattle.net_types.specs.declared.network.Stage.{Stage}
+use Rattle.net_types.specs.declared.network.Stage.TheVariants.{Free, Normal, Fixed, Tidal, Series}
+use Rattle.net_types.specs.declared.project.Project.{Project}
+use Rattle.node_update.specs.Network.{IsFixedStage, IsNode, IsNodeKind}
+use Rattle.node_update.specs.NodeLaws.{no_node as no_project_node, node_at as node_of}
+use Rattle.phase_law.specs.Law.{Law}
+use Rattle.phase_law.specs.Ranges.{FlowInRange, HeadInRange, LengthInRange, LinkInRange, NodeInRange, SumsInRange}
+use Rattle.phase_law.specs.declared.values.LinkFixed.{LinkFixed}
+use Rattle.phase_law.specs.declared.values.NodeFixed.{NodeFixed}
+use Rattle.time_series.specs.LateralFlow.{lateral_of}
+use Rattle.trial_model.specs.declared.nets.Nets.{Nets}
+use Rattle.trial_model.specs.Fits.{Fits, FlowsFit, number}
+use Rattle.trial_model.specs.Start.{no_link, no_node, resting}
+use Rattle.trial_model.specs.Trial.{list_of, inflow_of, outflow_of, SumsOf}
+use Rattle.trial_model.proofs.FlowLemmas.{flow_sums_most, listed_inflows, listed_outflows, listed_sums}
+use Rattle.trial_model.proofs.RangeLemmas.{listed}
+use Rattle.run_engine.specs.Runnable.{HasInitialDepth, HasInitialFlow, IsRunnable}
+use Rattle.run_engine.specs.States.{kind_head, level_of, no_pipe, opening, opening_flow, opening_head, opening_node, project_law, stage_of}
+use Rattle.run_engine.proofs.LawLemmas.{head_in, law_links, law_nodes, project_law_good}
+
+-- ---- ranges of a node's parts
+level_within : (stage : Stage) → IsFixedStage stage → IsWithin (10 ^ 10) (level_of stage)
+level_within (Fixed level) h = h
+level_within Free h = absurd h
+level_within Normal h = absurd h
+level_within (Tidal curve) h = absurd h
+level_within (Series series) h = absurd h
+
+stage_within : (kind : NodeKind) → IsNodeKind kind → IsWithin (10 ^ 10) (stage_of kind)
+stage_within (Outfall stage gated) h = level_within stage h
+stage_within (Junction surcharge pond) h = within_up (within_number 0) tt
+stage_within (Storage shape) h = absurd h
+
+open_within : (kind : NodeKind) {invert y0 : ℤ} → IsNodeKind kind → IsWithin (10 ^ 10) invert → IsBetween (pos 0) y0 (pos (10 ^ 9)) → IsWithin (2 * 10 ^ 10) (kind_head kind invert y0)
+open_within (Outfall stage gated) h i y = within_up (within_max i (level_within stage h)) tt
+open_within (Junction surcharge pond) h i y = within_up (within_add i (within_between y)) tt
+open_within (Storage shape) h i y = absurd h
+
+pub lateral_in : (project : Project) (n : ℕ) → FlowInRange (lateral_of project n)
+unfolding lateral_of
+lateral_in project n = record { within = (within_cut _ (le_number tt) (within_minus (10 ^ 12)) (within_number (10 ^ 12))).within }
+
+-- ---- of nodes and links by their numbers
+module _ {project : Project} (r : IsRunnable project) where
+  is_node : (n : ℕ) → n < length project.nodes → IsNode (node_of project.nodes n)
+  is_node n inside = All-get_or IsNode project.nodes n no_project_node inside r.hydraulic.network.nodes
+
+  pub stage_in : (n : ℕ) → n < length project.nodes → IsWithin (2 * 10 ^ 10) (stage_of (node_of project.nodes n).kind)
+  stage_in n inside = within_up (stage_within (node_of project.nodes n).kind (is_node n inside).kind) tt
+
+  opened_within : (n : ℕ) → n < length project.nodes → IsWithin (2 * 10 ^ 10) (opening_head (node_of project.nodes n))
+  opened_within n inside =
+      let node = is_node n inside in
+      open_within (node_of project.nodes n).kind node.kind node.invert (All-get_or HasInitialDepth project.nodes n no_project_node inside r.depths)
+
+  opened_flow : (l : ℕ) → l < length project.links → FlowInRange (opening_flow project.links l)
+  opened_flow l inside = All-get_or HasInitialFlow project.links l no_pipe inside r.flows
+
+  law_flow : (l : ℕ) → l < (project_law project).links → FlowInRange (opening_flow project.links l)
+  law_flow l inside = opened_flow l (omega (arith, law_links project))
+
+  pub opening_flows_fit : FlowsFit (project_law project) (list_of (opening_flow project.links) (length project.links))
+  opening_flows_fit = record {
+    count = length-map-range_with_len (opening_flow project.links) 0 (length project.links) ∙ sym (law_links project);
+    each = λ l inside.
+        let within : l < length project.links = omega (arith, law_links project) in
+        subst (λ (q : ℤ). FlowInRange q) (sym (listed (opening_flow project.links) (length project.links) l (pos 0) within)) (opened_flow l within);
+  }
+
+-- ---- a state in which nothing has happened
+no_length : LengthInRange (pos 0)
+no_length = record { least = omega (arith, ints); most = omega (arith, ints); even = omega arith }
+
+no_flow : FlowInRange (pos 0)
+no_flow = record { within = omega arith }
+
+no_link_in : LinkInRange no_link
+no_link_in = record {
+  flow = no_flow;
+  area_least = omega (arith, ints);
+  area_most = omega (arith, ints);
+  setting_least = omega (arith, ints);
+  setting_most = omega (arith, ints);
+  length = no_length;
+}
+
+zero_within : IsWithin (2 * 10 ^ 10) (pos 0)
+zero_within = within_up (within_number 0) tt
+
+amounts_in : {x y z : ℤ} (inflow outflow : ℕ) → x ≡ pos inflow → y ≡ pos outflow → z ≡ pos 0 → inflow ≤ 2 * 10 ^ 16 → outflow ≤ 2 * 10 ^ 16
+    → SumsInRange x y z
+amounts_in inflow outflow e1 e2 e3 h1 h2 = record {
+  inflow_least = omega (arith, ints);
+  inflow_most = omega (arith, ints);
+  outflow_least = omega (arith, ints);
+  outflow_most = omega (arith, ints);
+  area_least = omega (arith, ints);
+  area_most = omega (arith, ints);
+}
+
+-- ---- the opening state
+-- it fits the law
+pub opening_fits : (project : Project) → IsGood (hydraulics_of project) → IsRunnable project → Fits (project_law project) (opening project)
+unfolding opening
+opening_fits project good r =
+    let law = project_law project in
+    let h = hydraulics_of project in
+    let flow = opening_flow project.links in
+    let head : ℕ → ℤ = λ n. opening_head (node_of project.nodes n) in
+    record {
+      heads = record {
+        count = length-map-range_with_len head 0 law.nodes;
+        each = λ n inside.
+            subst (λ (z : ℤ). HeadInRange law z) (sym (listed head law.nodes n (pos 0) inside))
+            (head_in h (opened_within r n (omega (arith, law_nodes project))));
+      };
+      flows = record {
+        count = length-map-range_with_len flow 0 law.links;
+        each = λ l inside. subst (λ (q : ℤ). FlowInRange q) (sym (listed flow law.links l (pos 0) inside)) (law_flow r l inside);
+      };
+      sums = record {
+        inflow_count = length-map-range_with_len (λ n. pos (inflow_of law flow n)) 0 law.nodes;
+        outflow_count = length-map-range_with_len (λ n. pos (outflow_of law flow n)) 0 law.nodes;
+        area_count = length-replicate law.nodes (pos 0);
+        each = λ n inside.
+            let most = flow_sums_most (project_law_good project good) flow (law_flow r) n in
+            amounts_in (inflow_of law flow n) (outflow_of law flow n)
+            (listed (λ n. pos (inflow_of law flow n)) law.nodes n (pos 0) inside)
+            (listed (λ n. pos (outflow_of law flow n)) law.nodes n (pos 0) inside)
+            (get_or-replicate law.nodes n (pos 0) (pos 0) inside)
+            most.0
+            most.1;
+      };
+      read_heads = record {
+        count = length-replicate law.nodes (pos 0);
+        each = λ n inside. subst (λ (z : ℤ). HeadInRange law z) (sym (get_or-replicate law.nodes n (pos 0) (pos 0) inside)) (head_in h zero_within);
+      };
+      links = record {
+        count = length-replicate law.links no_link;
+        each = λ l inside. subst (λ (x : LinkFixed). LinkInRange x) (sym (get_or-replicate law.links l no_link no_link inside)) no_link_in;
+      };
+      nodes = record {
+        count = length-map-range_with_len (opening_node project) 0 law.nodes;
+        each = λ n inside.
+            subst (λ (x : NodeFixed). NodeInRange law x) (sym (listed (opening_node project) law.nodes n no_node inside))
+            (record {
+              head = head_in h zero_within;
+              net = omega arith;
+              lateral = lateral_in project n;
+              stage = head_in h (stage_in r n (omega (arith, law_nodes project)));
+              length = no_length;
+            });
+      };
+    }
+
+-- its inflows and outflows are the sums over its own flows
+pub opening_sums : (project : Project) → SumsOf (project_law project) (opening project)
+unfolding opening
+opening_sums project = listed_sums (project_law project) (opening_flow project.links) (opening project) refl refl refl
+
+-- ---- the steps that make it
+same_nets : {heads heads2 flows flows2 inflows inflows2 outflows outflows2 areas areas2 read read2 : List ℤ} {links links2 : List LinkFixed} {nodes nodes2 : List NodeFixed}
+    → heads ≡ heads2 → flows ≡ flows2 → inflows ≡ inflows2 → outflows ≡ outflows2 → areas ≡ areas2 → read ≡ read2 → links ≡ links2 → nodes ≡ nodes2
+    → ◌≡◌ {A = Nets}
+    (record { heads = heads; flows = flows; inflows = inflows; outflows = outflows; areas = areas; read_heads = read; links = links; nodes = nodes })
+    (record { heads = heads2; flows = flows2; inflows = inflows2; outflows = outflows2; areas = areas2; read_heads = read2; links = links2; nodes = nodes2 })
+same_nets e1 e2 e3 e4 e5 e6 e7 e8 = cc
+
+-- flows of a list, in the law of equal hydraulics
+pub flows_at : {h i : Hydraulics} {xs ys : List ℤ} → h ≡ i → xs ≡ ys → FlowsFit (law_of i) ys → FlowsFit (law_of h) xs
+flows_at {h} {i} {xs} {ys} e f fit = subst (λ (x : Hydraulics). FlowsFit (law_of x) xs) (sym e) (subst (λ (l : List ℤ). FlowsFit (law_of i) l) (sym f) fit)
+
+pub nodes_at : {h : Hydraulics} {xs : List ℤ} (project : Project) → h ≡ hydraulics_of project → xs ≡ replicate (length project.nodes) (pos 0) → length xs ≡ (law_of h).nodes
+nodes_at project e f =
+    ap (λ (l : List ℤ). length l) f ∙ length-replicate (length project.nodes) (pos 0) ∙ sym (law_nodes project) ∙ ap (λ (x : Hydraulics). (law_of x).nodes) (sym e)
+
+-- a state in which nothing has happened, with the heads, flows, nodes and sums of the beginning
+pub opening_is : (project : Project) (s : Nets) {h : Hydraulics} {heads flows : List ℤ} {nodes : List NodeFixed}
+    → h ≡ hydraulics_of project → s ≡ resting (length project.nodes) (length project.links)
+    → heads ≡ list_of (λ n. opening_head (node_of project.nodes n)) (length project.nodes)
+    → flows ≡ list_of (opening_flow project.links) (length project.links)
+    → nodes ≡ list_of (opening_node project) (length project.nodes)
+    → ◌≡◌ {A = Nets}
+    (record s {
+      heads = heads;
+      flows = flows;
+      nodes = nodes;
+      inflows = list_of (λ n. pos (inflow_of (law_of h) (number flows) n)) (law_of h).nodes;
+      outflows = list_of (λ n. pos (outflow_of (law_of h) (number flows) n)) (law_of h).nodes;
+    })
+    (opening project)
+unfolding opening
+opening_is project s {h} {heads} {flows} {nodes} same rests e1 e2 e3 =
+    let law = project_law project in
+    let flow = opening_flow project.links in
+    let law_is : law_of h ≡ law = ap law_of same in
+    let count = sym (law_nodes project) in
+    let flows_are : flows ≡ list_of flow law.links = e2 ∙ ap (list_of flow) (sym (law_links project)) in
+    same_nets
+    (e1 ∙ ap (list_of (λ n. opening_head (node_of project.nodes n))) count)
+    flows_are
+    (ap (λ (l : Law). list_of (λ n. pos (inflow_of l (number flows) n)) l.nodes) law_is
+    ∙ ap (λ (xs : List ℤ). list_of (λ n. pos (inflow_of law (number xs) n)) law.nodes) flows_are
+    ∙ listed_inflows law flow)
+    (ap (λ (l : Law). list_of (λ n. pos (outflow_of l (number flows) n)) l.nodes) law_is
+    ∙ ap (λ (xs : List ℤ). list_of (λ n. pos (outflow_of law (number xs) n)) law.nodes) flows_are
+    ∙ listed_outflows law flow)
+    (ap (λ (t : Nets). t.areas) rests ∙ ap (λ (n : ℕ). replicate n (pos 0)) count)
+    (ap (λ (t : Nets). t.read_heads) rests ∙ ap (λ (n : ℕ). replicate n (pos 0)) count)
+    (ap (λ (t : Nets). t.links) rests ∙ ap (λ (n : ℕ). replicate n no_link) (sym (law_links project)))
+    (e3 ∙ ap (list_of (opening_node project)) count)

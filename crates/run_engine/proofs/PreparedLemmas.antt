@@ -1,0 +1,132 @@
+-- A state made ready for a step: its parts and its ranges.
+use Rattle.std.proofs.Common.{◌≡◌, ◌∙◌, ℕ, ◌*◌, ◌^◌, ◌<◌, ℤ, pos, ◌+ℤ◌, ◌-ℤ◌, ◌≤ℤ◌, List, length, refl, sym, subst, ap, arith}
+use Rattle.std.proofs.lemmas.Int.{ints}
+use Rattle.std.proofs.lemmas.List.FromFn.{length-map-range_with_len}
+use Rattle.fixed_num.specs.Ranges.{IsBetween, IsWithin}
+use Rattle.link_eval.specs.Good.{IsGood}
+use Rattle.link_eval.specs.declared.hydraulics.Hydraulics.{Hydraulics}
+use Rattle.link_eval.specs.Hydraulics.{hydraulics_of, law_of}
+use Rattle.link_eval.proofs.ValueLemmas.{mid_area_at-between}
+use Rattle.net_types.specs.declared.project.Project.{Project}
+use Rattle.phase_law.specs.Law.{Law}
+use Rattle.phase_law.specs.Ranges.{FlowInRange, LengthInRange, LinkInRange, NodeInRange}
+use Rattle.phase_law.specs.declared.values.LinkFixed.{LinkFixed}
+use Rattle.phase_law.specs.declared.values.NodeFixed.{NodeFixed}
+use Rattle.trial_model.specs.declared.nets.Nets.{Nets}
+use Rattle.trial_model.specs.Fits.{Fits, NodesFit, SumsFit, node_at, number}
+use Rattle.trial_model.specs.Start.{no_link, no_node}
+use Rattle.trial_model.specs.Trial.{list_of}
+use Rattle.trial_model.proofs.RangeLemmas.{listed}
+use Rattle.run_engine.specs.Amounts.{AreAmounts, HaveLaterals}
+use Rattle.run_engine.specs.Runnable.{IsRunnable}
+use Rattle.run_engine.specs.States.{link_start, node_start, prepared, prepared_link, prepared_node, project_law}
+use Rattle.run_engine.proofs.LawLemmas.{head_in, law_nodes, link_in}
+use Rattle.run_engine.proofs.OpeningLemmas.{lateral_in, stage_in}
+
+-- ---- the net inflow of a node
+pub net_within : {lateral inflow outflow : ℤ} → FlowInRange lateral → IsBetween (pos 0) inflow (pos (2 * 10 ^ 16)) → IsBetween (pos 0) outflow (pos (2 * 10 ^ 16))
+    → IsWithin (3 * 10 ^ 16) (lateral +ℤ inflow -ℤ outflow)
+net_within l i o = record { within = omega (arith, ints, l.within, i.from, i.to, o.from, o.to) }
+
+pub gross_within : {lateral inflow : ℤ} → FlowInRange lateral → IsBetween (pos 0) inflow (pos (2 * 10 ^ 16)) → IsWithin (3 * 10 ^ 16) (lateral +ℤ inflow)
+gross_within l i = record { within = omega (arith, ints, l.within, i.from, i.to) }
+
+-- ---- what a step starts from
+pub same_node : {h h2 net net2 lateral lateral2 stage stage2 dt dt2 : ℤ} → h ≡ h2 → net ≡ net2 → lateral ≡ lateral2 → stage ≡ stage2 → dt ≡ dt2
+    → ◌≡◌ {A = NodeFixed}
+    (record { h_old = h; net_old = net; lateral = lateral; stage = stage; dt = dt })
+    (record { h_old = h2; net_old = net2; lateral = lateral2; stage = stage2; dt = dt2 })
+same_node e1 e2 e3 e4 e5 = cc
+
+-- it depends on the lateral inflow of the state alone
+pub same_start : (project : Project) (heads inflows outflows : List ℤ) (a b : List NodeFixed) (dt : ℤ) (n : ℕ) → node_at a n ≡ node_at b n
+    → node_start project heads inflows outflows a dt n ≡ node_start project heads inflows outflows b dt n
+same_start project heads inflows outflows a b dt n e =
+    same_node refl (ap (λ (x : NodeFixed). x.lateral +ℤ number inflows n -ℤ number outflows n) e) refl refl refl
+
+-- the amounts of a state that fits
+pub inflows_are : {law : Law} {inflows outflows areas xs : List ℤ} {count : ℕ} → SumsFit law inflows outflows areas → law.nodes ≡ count → xs ≡ inflows → AreAmounts count xs
+inflows_are {law} {inflows} {outflows} {areas} {xs} {count} fit e same =
+    subst (λ (l : List ℤ). AreAmounts count l) (sym same)
+    (record {
+      many = fit.inflow_count ∙ e;
+      each = λ n inside. let sums = fit.each n (omega arith) in record { from = sums.inflow_least; to = sums.inflow_most };
+    })
+
+pub outflows_are : {law : Law} {inflows outflows areas xs : List ℤ} {count : ℕ} → SumsFit law inflows outflows areas → law.nodes ≡ count → xs ≡ outflows → AreAmounts count xs
+outflows_are {law} {inflows} {outflows} {areas} {xs} {count} fit e same =
+    subst (λ (l : List ℤ). AreAmounts count l) (sym same)
+    (record {
+      many = fit.outflow_count ∙ e;
+      each = λ n inside. let sums = fit.each n (omega arith) in record { from = sums.outflow_least; to = sums.outflow_most };
+    })
+
+pub laterals_are : {law : Law} {nodes xs : List NodeFixed} {count : ℕ} → NodesFit law nodes → law.nodes ≡ count → xs ≡ nodes → HaveLaterals count xs
+laterals_are {law} {nodes} {xs} {count} fit e same =
+    subst (λ (l : List NodeFixed). HaveLaterals count l) (sym same)
+    (record {
+      many = fit.count ∙ e;
+      each = λ n inside. (fit.each n (omega arith)).lateral;
+    })
+
+-- ---- the state made ready
+-- part by part
+pub prepared_is : (project : Project) (dt : ℤ) (s : Nets) {h : Hydraulics} {links : List LinkFixed} {nodes : List NodeFixed} → h ≡ hydraulics_of project
+    → links ≡ list_of (link_start h s.heads s.flows dt) (law_of h).links
+    → nodes ≡ list_of (node_start project s.heads s.inflows s.outflows s.nodes dt) (length project.nodes)
+    → ◌≡◌ {A = Nets} (record s { links = links; nodes = nodes }) (prepared project dt s)
+unfolding prepared
+prepared_is project dt s {h} {links} {nodes} same e1 e2 =
+    let links_are : links ≡ list_of (prepared_link project s dt) (project_law project).links =
+    e1 ∙ ap (λ (x : Hydraulics). list_of (link_start x s.heads s.flows dt) (law_of x).links) same in
+    let nodes_are : nodes ≡ list_of (prepared_node project s dt) (project_law project).nodes =
+    e2 ∙ ap (list_of (prepared_node project s dt)) (sym (law_nodes project)) in
+    cc (links_are, nodes_are)
+
+-- in range
+module _ {project : Project} (good : IsGood (hydraulics_of project)) (r : IsRunnable project) {s : Nets} (fits : Fits (project_law project) s)
+    {dt : ℤ} (length_in : LengthInRange dt) where
+  link_ready : (l : ℕ) → l < (project_law project).links → LinkInRange (prepared_link project s dt l)
+  link_ready l inside =
+      let area = mid_area_at-between (hydraulics_of project) l _ _ good (link_in (hydraulics_of project) l inside) in
+      record {
+        flow = fits.flows.each l inside;
+        area_least = area.from;
+        area_most = area_fits area;
+        setting_least = omega (arith, ints);
+        setting_most = omega (arith, ints);
+        length = length_in;
+      }
+    where
+      area_fits : {a : ℤ} → IsBetween (pos 0) a (pos (10 ^ 11)) → a ≤ℤ pos (10 ^ 12)
+      area_fits b = omega (arith, ints, b.to)
+
+  node_ready : (n : ℕ) → n < (project_law project).nodes → NodeInRange (project_law project) (prepared_node project s dt n)
+  node_ready n inside =
+      let sums = fits.sums.each n inside in
+      record {
+        head = fits.heads.each n inside;
+        net = (net_within (fits.nodes.each n inside).lateral (record { from = sums.inflow_least; to = sums.inflow_most }) (record { from = sums.outflow_least; to = sums.outflow_most })).within;
+        lateral = lateral_in project n;
+        stage = head_in (hydraulics_of project) (stage_in r n (omega (arith, law_nodes project)));
+        length = length_in;
+      }
+
+  pub prepared_fits : Fits (project_law project) (prepared project dt s)
+  unfolding prepared
+  prepared_fits =
+      let law = project_law project in
+      record {
+        heads = fits.heads;
+        flows = fits.flows;
+        sums = fits.sums;
+        read_heads = fits.read_heads;
+        links = record {
+          count = length-map-range_with_len (prepared_link project s dt) 0 law.links;
+          each = λ l inside. subst (λ (x : LinkFixed). LinkInRange x) (sym (listed (prepared_link project s dt) law.links l no_link inside)) (link_ready l inside);
+        };
+        nodes = record {
+          count = length-map-range_with_len (prepared_node project s dt) 0 law.nodes;
+          each = λ n inside. subst (λ (x : NodeFixed). NodeInRange law x) (sym (listed (prepared_node project s dt) law.nodes n no_node inside)) (node_ready n inside);
+        };
+      }

@@ -1,0 +1,67 @@
+-- The states of a run, and what its steps come to, with one step more.
+use Rattle.std.proofs.Common.{◌≡◌, ◌∙◌, ℕ, ◌+◌, ◌≤◌, Bool, true, false, if◌then◌else◌, refl, sym, ap, subst, arith, add-one}
+use Rattle.continuity.specs.Account.{account_of, floods_of}
+use Rattle.link_eval.specs.Hydraulics.{hydraulics_of}
+use Rattle.net_types.specs.declared.project.Project.{Project}
+use Rattle.report_writer.specs.declared.counts.RunCounts.{RunCounts}
+use Rattle.trial_model.specs.declared.step.StepEnd.{StepEnd}
+use Rattle.run_engine.specs.Kept.{AreCountsAt}
+use Rattle.run_engine.specs.Results.{account_at, counts_after, end_at, floods_at}
+use Rattle.run_engine.specs.States.{next_state, opening, state, step_end}
+use Rattle.run_engine.specs.Times.{length_of}
+
+pub state_none : (project : Project) → state project 0 ≡ opening project
+unfolding state
+state_none project = refl
+
+pub state_more : (project : Project) (k : ℕ) → state project (k + 1) ≡ next_state project (length_of project.options k) (state project k)
+unfolding state
+state_more project k = rw (add-one k) refl
+
+pub floods_more : (project : Project) (k : ℕ) → floods_at project (k + 1) ≡ floods_of (hydraulics_of project) (state project (k + 1))
+unfolding floods_at
+floods_more project k = rw (add-one k) refl
+
+pub account_is : (project : Project) (k : ℕ) → account_at project k ≡ account_of (hydraulics_of project) (state project k) (state project (k + 1)) (length_of project.options k)
+unfolding account_at
+account_is project k = refl
+
+pub end_is_at : (project : Project) (k : ℕ) → end_at project k ≡ step_end project (length_of project.options k) (state project k)
+unfolding end_at
+end_is_at project k = refl
+
+-- ---- counts
+
+counts_more : (project : Project) (k : ℕ)
+    → counts_after project (k + 1) ≡ record { steps = k + 1; trials = (counts_after project k).trials + (end_at project k).trials; unsettled = (counts_after project k).unsettled + (if (end_at project k).settled then 0 else 1) }
+unfolding counts_after
+counts_more project k = rw (add-one k) refl
+
+one_at_most : (b : Bool) → (if b then 0 else 1) ≤ 1
+one_at_most true = omega arith
+one_at_most false = omega arith
+
+same_parts : {s t u v w : ℕ} → t ≡ v → u ≡ w → ◌≡◌ {A = RunCounts} (record { steps = s; trials = t; unsettled = u }) (record { steps = s; trials = v; unsettled = w })
+same_parts p q = rw (p, q) refl
+
+pub counted_none : (project : Project) → AreCountsAt project 0 (record { steps = 0; trials = 0; unsettled = 0 })
+unfolding counts_after
+counted_none project = record { same = refl; trials = omega arith; unsettled = omega arith }
+
+pub counted_more : (project : Project) (old : RunCounts) (end : StepEnd) (trials unsettled : ℕ) → AreCountsAt project old.steps old → end ≡ end_at project old.steps → end.trials ≤ 20
+    → trials ≡ end.trials → unsettled ≡ (if end.settled then 0 else 1)
+    → AreCountsAt project (old.steps + 1) (record { steps = old.steps + 1; trials = old.trials + trials; unsettled = old.unsettled + unsettled })
+counted_more project old end trials unsettled kept is few t u =
+    let one : unsettled ≤ 1 = subst (λ (x : ℕ). x ≤ 1) (sym u) (one_at_most end.settled) in
+    let old_trials : old.trials ≡ (counts_after project old.steps).trials = ap (λ (c : RunCounts). c.trials) kept.same in
+    let old_unsettled : old.unsettled ≡ (counts_after project old.steps).unsettled = ap (λ (c : RunCounts). c.unsettled) kept.same in
+    let new_trials : trials ≡ (end_at project old.steps).trials = t ∙ ap (λ (e : StepEnd). e.trials) is in
+    let new_unsettled : unsettled ≡ (if (end_at project old.steps).settled then 0 else 1) = u ∙ ap (λ (e : StepEnd). if e.settled then 0 else 1) is in
+    record {
+      same = same_parts (sums old_trials new_trials) (sums old_unsettled new_unsettled) ∙ sym (counts_more project old.steps);
+      trials = omega (arith, kept.trials, few, t);
+      unsettled = omega (arith, kept.unsettled, one);
+    }
+  where
+    sums : {a b c d : ℕ} → a ≡ b → c ≡ d → a + c ≡ b + d
+    sums p q = rw (p, q) refl

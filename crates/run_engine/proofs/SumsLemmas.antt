@@ -1,0 +1,103 @@
+-- The summaries of a run: of no state, and what they are of all states so far.
+use Rattle.std.proofs.Common.{◌≡◌, ◌∙◌, ℕ, zero, suc, ◌+◌, ◌*◌, ◌^◌, ◌<◌, List, length, replicate, ℤ, pos, refl, sym, ap, inl, inr, arith}
+use Rattle.std.proofs.lemmas.Bool.{cases_lt}
+use Rattle.std.proofs.lemmas.Int.{ints}
+use Rattle.std.proofs.lemmas.List.{length-map, length-replicate, get_or-map, get_or-replicate, get_or_past}
+use Rattle.std.proofs.lemmas.List.FromFn.{fill_by_all, get_or-map-range_with_len, length-map-range_with_len}
+use Rattle.fixed_num.specs.Ranges.{IsWithin}
+use Rattle.net_types.specs.declared.network.Node.{Node}
+use Rattle.net_types.specs.declared.project.Project.{Project}
+use Rattle.node_update.specs.NodeLaws.{node_at, no_node}
+use Rattle.summaries.specs.Figures.{Figures, AreFigures, AreSummaries, inverts_of, new_figures, node_summary, link_summary}
+use Rattle.summaries.specs.Peaks.{peak_of}
+use Rattle.summaries.specs.Steps.{new_node_summary, new_link_summary, no_node_summary}
+use Rattle.trial_model.specs.Fits.{FlowsFit, HeadsFit, number}
+use Rattle.trial_model.specs.Trial.{list_of}
+use Rattle.trial_model.specs.declared.nets.Nets.{Nets}
+use Rattle.run_engine.specs.Kept.{AreSumsOf}
+use Rattle.run_engine.specs.Results.{floods_at, node_summaries, link_summaries}
+use Rattle.run_engine.specs.States.{state}
+use Rattle.run_engine.specs.Times.{moment_of}
+use Rattle.run_engine.proofs.LawLemmas.{head_within, law_nodes}
+use Rattle.continuity.specs.Account.{floods_of, flood_at}
+use Rattle.link_eval.specs.Hydraulics.{hydraulics_of, law_of}
+use Rattle.link_eval.specs.declared.hydraulics.Hydraulics.{Hydraulics}
+
+-- ---- lists
+pub copies_are : {A : Type 0} (x : A) (f : ℕ → A) (count : ℕ) → ((n : ℕ) → f n ≡ x) → replicate count x ≡ list_of f count
+copies_are x f count each = fill_by_all f (replicate count x) count x (length-replicate count x) (λ n h. get_or-replicate count n x x h ∙ sym (each n))
+
+same_lists : {A : Type 0} (none : A) (f g : ℕ → A) (count : ℕ) → ((n : ℕ) → n < count → f n ≡ g n) → list_of f count ≡ list_of g count
+same_lists none f g count each =
+    fill_by_all g (list_of f count) count none (length-map-range_with_len f 0 count) (λ n h. get_or-map-range_with_len f 0 count n n none h (omega arith) ∙ each n h)
+
+-- ---- of no state
+node_none : (run : ℕ → Nets) (flooded : ℕ → List ℤ) (moments : ℕ → ℤ) (invert : ℤ) (n : ℕ) → node_summary run flooded moments 0 invert n ≡ new_node_summary
+unfolding node_summary peak_of
+node_none run flooded moments invert n = refl
+
+link_none : (run : ℕ → Nets) (moments : ℕ → ℤ) (l : ℕ) → link_summary run moments 0 l ≡ new_link_summary
+unfolding link_summary peak_of
+link_none run moments l = refl
+
+new_summaries : (run : ℕ → Nets) (flooded : ℕ → List ℤ) (moments : ℕ → ℤ) (project : Project) → AreSummaries run flooded moments (new_figures project)
+new_summaries run flooded moments project =
+    let inverts = inverts_of project.nodes in
+    record {
+      nodes = copies_are new_node_summary (λ n. node_summary run flooded moments 0 (number inverts n) n) (length project.nodes) (λ n. node_none run flooded moments (number inverts n) n)
+          ∙ ap (list_of (λ n. node_summary run flooded moments 0 (number inverts n) n)) (sym (length-map project.nodes (λ (node : Node). node.invert)));
+      links = copies_are new_link_summary (link_summary run moments 0) (length project.links) (link_none run moments)
+          ∙ ap (list_of (link_summary run moments 0)) (sym (length-replicate (length project.links) new_link_summary));
+    }
+
+pub new_sums : (project : Project) → AreFigures (new_figures project) → AreSumsOf project 0 (new_figures project)
+new_sums project good = record {
+  good = good;
+  states = refl;
+  inverts = refl;
+  links = length-replicate (length project.links) new_link_summary;
+  summaries = new_summaries (state project) (floods_at project) (moment_of project.options) project;
+}
+
+-- ---- of all states so far
+invert_is : (nodes : List Node) (n : ℕ) → n < length nodes → number (inverts_of nodes) n ≡ (node_at nodes n).invert
+invert_is nodes n h = get_or-map (λ (node : Node). node.invert) nodes n no_node (pos 0) h
+
+pub nodes_are : (project : Project) (k : ℕ) (figures : Figures) → AreSumsOf project (k + 1) figures → figures.nodes ≡ node_summaries project k
+unfolding node_summaries
+nodes_are project k figures sums =
+    let of = λ (invert : ℤ) (n : ℕ). node_summary (state project) (floods_at project) (moment_of project.options) (k + 1) invert n in
+    let inverts = inverts_of project.nodes in
+    let here : figures.nodes ≡ list_of (λ n. of (number inverts n) n) (length inverts) = rw (sums.states, sums.inverts) at sums.summaries.nodes in
+    here ∙ ap (list_of (λ n. of (number inverts n) n)) (length-map project.nodes (λ (node : Node). node.invert))
+    ∙ same_lists no_node_summary (λ n. of (number inverts n) n) (λ n. of (node_at project.nodes n).invert n) (length project.nodes) (λ n h. ap (λ (z : ℤ). of z n) (invert_is project.nodes n h))
+
+pub links_are : (project : Project) (k : ℕ) (figures : Figures) → AreSumsOf project (k + 1) figures → figures.links ≡ link_summaries project k
+unfolding link_summaries
+links_are project k figures sums = rw (sums.states, sums.links) at sums.summaries.links
+
+-- ---- what a state gives to the summaries, in range
+pub head_at : (h : Hydraulics) (heads : List ℤ) → HeadsFit (law_of h) heads → (n : ℕ) → IsWithin (2 * 10 ^ 10) (number heads n)
+head_at h heads fit n = elim (cases_lt n (length heads)) [
+  | inl less ↦ head_within h (fit.each n (omega (arith, less, fit.count)))
+  | inr past ↦ rw (get_or_past heads n (pos 0) (omega (arith, past))) (record { within = omega (arith, ints) })
+]
+
+pub flow_at : (h : Hydraulics) (flows : List ℤ) → FlowsFit (law_of h) flows → (l : ℕ) → IsWithin (10 ^ 12) (number flows l)
+flow_at h flows fit l = elim (cases_lt l (length flows)) [
+  | inl less ↦ let f = fit.each l (omega (arith, less, fit.count)) in record { within = f.within }
+  | inr past ↦ rw (get_or_past flows l (pos 0) (omega (arith, past))) (record { within = omega (arith, ints) })
+]
+
+-- ---- counts
+pub inverts_count : {project : Project} {count : ℕ} {figures : Figures} → AreSumsOf project count figures → length figures.inverts ≡ length project.nodes
+inverts_count {project} sums = ap length sums.inverts ∙ length-map project.nodes (λ (node : Node). node.invert)
+
+floods_length : (h : Hydraulics) (s : Nets) → length (floods_of h s) ≡ (law_of h).nodes
+unfolding floods_of
+floods_length h s = length-map-range_with_len (flood_at h s) 0 (law_of h).nodes
+
+pub floods_count : (project : Project) (k : ℕ) → length (floods_at project k) ≡ length project.nodes
+unfolding floods_at
+floods_count project zero = length-replicate (length project.nodes) (pos 0)
+floods_count project (suc k) = floods_length (hydraulics_of project) (state project (suc k)) ∙ law_nodes project

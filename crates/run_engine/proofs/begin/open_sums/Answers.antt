@@ -1,0 +1,10 @@
+use Rattle.std.proofs.Common.{subst, sym}
+use Rattle.summaries.specs.Figures.{AreFigures}
+use Rattle.run_engine.specs.Kept.{AreSumsOf}
+use Rattle.run_engine.proofs.SumsLemmas.{new_sums}
+use Rattle.run_engine.proofs.begin.open_sums.Goals as goal
+
+pub add_state-requires-clause-sums : goal.add_state-requires-clause-sums
+add_state-requires-clause-sums c =
+    let made = c.in_ok-sums.ensures in
+    subst (AreSumsOf c.args.project.now 0) (sym made.value) (new_sums c.args.project.now (subst AreFigures made.value made.figures))

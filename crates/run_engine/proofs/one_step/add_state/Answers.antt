@@ -1,0 +1,47 @@
+use Rattle.std.proofs.Common.{rules, ◌∙◌, ◌+◌, ℕ, FitsSigned, w64, length, sym, ap}
+use Rattle.std.proofs.lemmas.Int.{to_z-of_z}
+use Rattle.link_eval.specs.Hydraulics.{hydraulics_of}
+use Rattle.run_engine.specs.Results.{floods_at}
+use Rattle.run_engine.specs.States.{state}
+use Rattle.run_engine.specs.Times.{moment_of}
+use Rattle.run_engine.proofs.LawLemmas.{law_nodes, law_links}
+use Rattle.run_engine.proofs.SumsLemmas.{flow_at, head_at, floods_count, inverts_count}
+use Rattle.run_engine.proofs.one_step.add_state.Goals as goal
+
+pub add_state-requires-clause-heads : goal.add_state-requires-clause-heads
+add_state-requires-clause-heads c =
+    c.requires.now.fits.heads.count ∙ law_nodes c.args.project.now ∙ sym (inverts_count c.requires.sums)
+
+pub add_state-requires-clause-heads_in : goal.add_state-requires-clause-heads_in
+add_state-requires-clause-heads_in c = head_at (hydraulics_of c.args.project.now) c.args.nets.now.heads c.requires.now.fits.heads
+
+pub add_state-requires-clause-flows : goal.add_state-requires-clause-flows
+add_state-requires-clause-flows c =
+    c.requires.now.fits.flows.count ∙ law_links c.args.project.now ∙ sym c.requires.sums.links
+
+pub add_state-requires-clause-flows_in : goal.add_state-requires-clause-flows_in
+add_state-requires-clause-flows_in c = flow_at (hydraulics_of c.args.project.now) c.args.nets.now.flows c.requires.now.fits.flows
+
+pub add_state-requires-clause-floods : goal.add_state-requires-clause-floods
+add_state-requires-clause-floods c =
+    ap length c.requires.floods.same ∙ floods_count c.args.project.now c.args.k ∙ sym (inverts_count c.requires.sums)
+
+pub returns : goal.returns
+returns c =
+    let project = c.args.project.now in
+    let sums = c.requires.sums in
+    let added = c.add_state.ensures in
+    let fits : FitsSigned w64 c.moment-moment.result = search rules in
+    let summaries = simp (to_z-of_z, fits) at added.summaries in
+    record {
+      sums = record {
+        good = added.figures;
+        states = added.states ∙ ap (λ (n : ℕ). n + 1) sums.states;
+        inverts = added.inverts ∙ sums.inverts;
+        links = added.links ∙ sums.links;
+        summaries = summaries (state project) (floods_at project) (moment_of project.options) sums.summaries
+            (ap (state project) sums.states ∙ sym c.requires.now.same)
+            (ap (floods_at project) sums.states ∙ sym c.requires.floods.same)
+            (ap (moment_of project.options) sums.states ∙ sym c.moment-moment.ensures.value);
+      };
+    }

@@ -1,0 +1,6 @@
+use Rattle.std.proofs.Common.{arith, ap, length}
+use Rattle.run_engine.proofs.FillLemmas.{filled_all}
+use Rattle.run_engine.proofs.opening.open_nodes.Goals as goal
+
+pub returns : goal.returns
+returns c = filled_all c.loop-n.invariant _ c.requires.fixed (omega (arith, c.loop-n-test.false, ap length c.as_slice.ensures))

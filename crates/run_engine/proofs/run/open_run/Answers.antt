@@ -1,0 +1,42 @@
+use Rattle.std.proofs.Common.{◌∙◌, length, pos, ap, refl, subst, sym, arith}
+use Rattle.std.proofs.lemmas.List.{length-replicate}
+use Rattle.continuity.specs.Run.{Running}
+use Rattle.link_eval.specs.Good.{IsGood}
+use Rattle.run_engine.specs.Results.{account_at}
+use Rattle.run_engine.specs.States.{project_law}
+use Rattle.run_engine.proofs.KeptLemmas.{kept_at, opening_at, opening_floods}
+use Rattle.run_engine.proofs.LawLemmas.{law_nodes, law_links}
+use Rattle.run_engine.proofs.StateLemmas.{counted_none}
+use Rattle.run_engine.proofs.run.open_run.Goals as goal
+
+pub open_sums-requires-clause-now : goal.open_sums-requires-clause-now
+open_sums-requires-clause-now c =
+    let good = subst IsGood c.in_ok-law.ensures c.in_ok-law.law.good in
+    opening_at c.args.project c.in_ok-nets.nets good c.requires c.in_ok-nets.ensures
+
+pub open_sums-requires-clause-floods : goal.open_sums-requires-clause-floods
+open_sums-requires-clause-floods c =
+    let zeros = rw c.as_slice.ensures at c.in_ok-floods.ensures in
+    opening_floods c.args.project c.in_ok-floods.floods zeros
+
+pub invariant_of-result : goal.invariant_of-result
+invariant_of-result c =
+    let project = c.args.project in
+    let good = subst IsGood c.in_ok-law.ensures c.in_ok-law.law.good in
+    let zeros = rw c.as_slice.ensures at c.in_ok-floods.ensures in
+    record {
+      runnable = c.requires;
+      law = c.in_ok-law.ensures;
+      within = omega arith;
+      now = opening_at project c.in_ok-nets.nets good c.requires c.in_ok-nets.ensures;
+      room = c.in_ok-before.ensures.fits (project_law project)
+          (law_nodes project ∙ sym (ap length c.as_slice.ensures))
+          (law_links project ∙ sym (ap length c.as_slice-2.ensures));
+      flood_room = ap length zeros ∙ length-replicate (length project.nodes) (pos 0);
+      summed = c.in_ok-sums.ensures;
+      totalled = record { steps = ap (λ (running : Running). running.steps) c.new.ensures.value; total = c.new.ensures.total (account_at project) };
+      counted = counted_none project;
+    }
+
+pub returns : goal.returns
+returns c = (refl, kept_at (invariant_of-result c))

@@ -1,0 +1,8 @@
+pub mod Times
+pub mod States
+pub mod Runnable
+pub mod Amounts
+pub mod Results
+pub mod Report
+pub mod Progress
+pub mod Kept

@@ -1,0 +1,31 @@
+-- How far a run is (this project's profile).
+use Rattle.std.specs.Prelude.{◌≡◌, ℕ, ◌≤◌, List}
+use Rattle.net_types.specs.declared.account.StepAccount.{StepAccount}
+use Rattle.net_types.specs.declared.project.Project.{Project}
+use Rattle.report_writer.specs.declared.counts.RunCounts.{RunCounts}
+use Rattle.summaries.specs.declared.link_summary.LinkSummary.{LinkSummary}
+use Rattle.summaries.specs.declared.node_summary.NodeSummary.{NodeSummary}
+use Rattle.trial_model.specs.declared.nets.Nets.{Nets}
+use Rattle.run_engine.specs.Results.{total_after, counts_after, node_summaries, link_summaries}
+use Rattle.run_engine.specs.Runnable.{IsRunnable}
+use Rattle.run_engine.specs.States.{state}
+use Rattle.run_engine.specs.Times.{steps_of}
+
+-- a run as its callers see it: its project, its state, and what its steps and states came to so far
+pub record Progress : Type 0 where
+  pub project : Project
+  pub nets : Nets
+  pub total : StepAccount
+  pub nodes : List NodeSummary
+  pub links : List LinkSummary
+  pub counts : RunCounts
+
+-- the run of a project that can be run has made its first k steps
+pub record IsAt (run : Progress) (k : ℕ) : Type 0 where
+  pub runnable : IsRunnable run.project
+  pub within : k ≤ steps_of run.project.options
+  pub nets : run.nets ≡ state run.project k
+  pub total : run.total ≡ total_after run.project k
+  pub nodes : run.nodes ≡ node_summaries run.project k
+  pub links : run.links ≡ link_summaries run.project k
+  pub counts : run.counts ≡ counts_after run.project k

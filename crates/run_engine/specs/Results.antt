@@ -1,0 +1,50 @@
+-- What a run comes to: its accounts, counts and summaries, over the list of all its states (this project's profile).
+use Rattle.std.specs.Prelude.{ℕ, zero, suc, ◌+◌, if◌then◌else◌, List, length, replicate, ℤ, pos}
+use Rattle.net_types.specs.declared.account.StepAccount.{StepAccount}
+use Rattle.net_types.specs.declared.project.Project.{Project}
+use Rattle.phase_law.specs.Sums.{below}
+use Rattle.trial_model.specs.declared.step.StepEnd.{StepEnd}
+use Rattle.trial_model.specs.Trial.{list_of}
+use Rattle.continuity.specs.Account.{account_of, floods_of}
+use Rattle.continuity.specs.Sums.{total_of}
+use Rattle.link_eval.specs.Hydraulics.{hydraulics_of}
+use Rattle.node_update.specs.NodeLaws.{node_at}
+use Rattle.report_writer.specs.declared.counts.RunCounts.{RunCounts}
+use Rattle.summaries.specs.Figures.{node_summary, link_summary}
+use Rattle.summaries.specs.declared.link_summary.LinkSummary.{LinkSummary}
+use Rattle.summaries.specs.declared.node_summary.NodeSummary.{NodeSummary}
+use Rattle.run_engine.specs.States.{state, step_end}
+use Rattle.run_engine.specs.Times.{length_of, moment_of}
+
+-- the account of the step from state k to the next
+unfoldable pub account_at : Project → ℕ → StepAccount
+account_at project k = account_of (hydraulics_of project) (state project k) (state project (k + 1)) (length_of project.options k)
+
+-- the account of the first k steps: each field is the sum of theirs
+abbrev pub total_after : Project → ℕ → StepAccount
+total_after project k = total_of (account_at project) k
+
+-- what flooded each node in the step that led to state k; nothing before state 0
+unfoldable pub floods_at : Project → ℕ → List ℤ
+floods_at project zero = replicate (length project.nodes) (pos 0)
+floods_at project (suc k) = floods_of (hydraulics_of project) (state project (suc k))
+
+-- how the step from state k ended
+unfoldable pub end_at : Project → ℕ → StepEnd
+end_at project k = step_end project (length_of project.options k) (state project k)
+
+-- how many of the first k steps there are, the trials that they took, and how many of them did not settle
+unfoldable pub counts_after : Project → ℕ → RunCounts
+counts_after project k = record {
+  steps = k;
+  trials = below (λ j. (end_at project j).trials) k;
+  unsettled = below (λ j. if (end_at project j).settled then 0 else 1) k;
+}
+
+-- the summaries of the states 0 to k
+unfoldable pub node_summaries : Project → ℕ → List NodeSummary
+node_summaries project k =
+    list_of (λ n. node_summary (state project) (floods_at project) (moment_of project.options) (k + 1) (node_at project.nodes n).invert n) (length project.nodes)
+
+unfoldable pub link_summaries : Project → ℕ → List LinkSummary
+link_summaries project k = list_of (link_summary (state project) (moment_of project.options) (k + 1)) (length project.links)

@@ -1,0 +1,128 @@
+-- The states of a run (Reference Manual volume II, chapter 3; this project's profile).
+use Rattle.std.specs.Prelude.{ℕ, zero, suc, false, List, [], replicate, None, ℤ, pos, ◌+ℤ◌, ◌-ℤ◌, slice_index_or}
+use Rattle.std.specs.Int.{int_max}
+use Rattle.net_types.specs.declared.network.Link.{Link}
+use Rattle.net_types.specs.declared.network.LinkKind.{LinkKind}
+use Rattle.net_types.specs.declared.network.LinkKind.TheVariants.{Conduit, Pump, Orifice, Weir}
+use Rattle.net_types.specs.declared.network.Node.{Node}
+use Rattle.net_types.specs.declared.network.NodeKind.{NodeKind}
+use Rattle.net_types.specs.declared.network.NodeKind.TheVariants.{Junction, Outfall, Storage}
+use Rattle.net_types.specs.declared.network.Stage.{Stage}
+use Rattle.net_types.specs.declared.network.Stage.TheVariants.{Free, Normal, Fixed, Tidal, Series}
+use Rattle.net_types.specs.declared.project.Project.{Project}
+use Rattle.phase_law.specs.Law.{Law}
+use Rattle.phase_law.specs.declared.values.LinkFixed.{LinkFixed}
+use Rattle.phase_law.specs.declared.values.NodeFixed.{NodeFixed}
+use Rattle.trial_model.specs.declared.nets.Nets.{Nets}
+use Rattle.trial_model.specs.declared.step.StepEnd.{StepEnd}
+use Rattle.trial_model.specs.Fits.{number, node_at}
+use Rattle.trial_model.specs.RoutingStep.{end_of, trials}
+use Rattle.trial_model.specs.Start.{no_link}
+use Rattle.trial_model.specs.Trial.{list_of, inflow_of, outflow_of}
+use Rattle.link_eval.specs.declared.hydraulics.Hydraulics.{Hydraulics}
+use Rattle.link_eval.specs.Hydraulics.{hydraulics_of, law_of, mid_area_at}
+use Rattle.node_update.specs.NodeLaws.{node_at as node_of}
+use Rattle.time_series.specs.LateralFlow.{lateral_of}
+use Rattle.run_engine.specs.Times.{length_of}
+
+-- the law of a project
+abbrev pub project_law : Project → Law
+project_law project = law_of (hydraulics_of project)
+
+-- ---- the opening state
+-- the level of a fixed stage; others aren't built
+abbrev pub level_of : Stage → ℤ
+level_of (Fixed level) = level
+level_of Free = pos 0
+level_of Normal = pos 0
+level_of (Tidal curve) = pos 0
+level_of (Series series) = pos 0
+
+-- the stage of an outfall; other nodes have none
+abbrev pub stage_of : NodeKind → ℤ
+stage_of (Outfall stage gated) = level_of stage
+stage_of (Junction surcharge pond) = pos 0
+stage_of (Storage shape) = pos 0
+
+-- the head of a node in the beginning: a junction has its initial depth, an outfall its stage where that is above its invert
+abbrev pub kind_head : NodeKind → (invert y0 : ℤ) → ℤ
+kind_head (Outfall stage gated) invert y0 = int_max invert (level_of stage)
+kind_head (Junction surcharge pond) invert y0 = invert +ℤ y0
+kind_head (Storage shape) invert y0 = invert +ℤ y0
+
+abbrev pub opening_head : Node → ℤ
+opening_head node = kind_head node.kind node.invert node.y0
+
+-- the flow of a link in the beginning
+abbrev pub kind_flow : LinkKind → ℤ
+kind_flow (Conduit long n6 z1 z2 q0 q_max entry6 exit6 avg6 flap) = q0
+kind_flow (Pump curve on startup shutoff) = pos 0
+kind_flow (Orifice bottom offset cd6 flap) = pos 0
+kind_flow (Weir notch crest cd6 flap contractions) = pos 0
+
+abbrev pub no_pipe : Link
+no_pipe = record { name = []; first = 0; second = 0; kind = Pump 0 false (pos 0) (pos 0); «section» = None }
+
+abbrev pub opening_flow : List Link → ℕ → ℤ
+opening_flow links l = kind_flow (slice_index_or links l no_pipe).kind
+
+-- what a node has of its own at a moment: its lateral inflow and its stage
+abbrev pub opening_node : Project → ℕ → NodeFixed
+opening_node project n = record { h_old = pos 0; net_old = pos 0; lateral = lateral_of project n; stage = stage_of (node_of project.nodes n).kind; dt = pos 0 }
+
+-- the state before the first step: initial heads and flows, and what the nodes get of these flows
+unfoldable pub opening : Project → Nets
+opening project =
+    let law = project_law project in
+    let flow = opening_flow project.links in
+    record {
+      heads = list_of (λ n. opening_head (node_of project.nodes n)) law.nodes;
+      flows = list_of flow law.links;
+      inflows = list_of (λ n. pos (inflow_of law flow n)) law.nodes;
+      outflows = list_of (λ n. pos (outflow_of law flow n)) law.nodes;
+      areas = replicate law.nodes (pos 0);
+      read_heads = replicate law.nodes (pos 0);
+      links = replicate law.links no_link;
+      nodes = list_of (opening_node project) law.nodes;
+    }
+
+-- ---- a step
+-- what stays the same for a link over a step: its flow and its middle area in the state, its setting (all are open), the length
+abbrev pub link_start : Hydraulics → (heads flows : List ℤ) → (dt : ℤ) → ℕ → LinkFixed
+link_start h heads flows dt l =
+    let ends = (law_of h).ends l in
+    record { q_old = number flows l; a_old = mid_area_at h l (number heads ends.0) (number heads ends.1); setting = pos 1_000_000; dt = dt }
+
+abbrev pub prepared_link : Project → Nets → (dt : ℤ) → ℕ → LinkFixed
+prepared_link project s = link_start (hydraulics_of project) s.heads s.flows
+
+-- and for a node: its head and its net inflow in the state, and its lateral inflow and stage at the step's end
+abbrev pub node_start : Project → (heads inflows outflows : List ℤ) → List NodeFixed → (dt : ℤ) → ℕ → NodeFixed
+node_start project heads inflows outflows nodes dt n = record {
+  h_old = number heads n;
+  net_old = (node_at nodes n).lateral +ℤ number inflows n -ℤ number outflows n;
+  lateral = lateral_of project n;
+  stage = stage_of (node_of project.nodes n).kind;
+  dt = dt;
+}
+
+abbrev pub prepared_node : Project → Nets → (dt : ℤ) → ℕ → NodeFixed
+prepared_node project s = node_start project s.heads s.inflows s.outflows s.nodes
+
+-- a state made ready for the trials of a step of this length
+unfoldable pub prepared : Project → (dt : ℤ) → Nets → Nets
+prepared project dt s =
+    let law = project_law project in
+    record s { links = list_of (prepared_link project s dt) law.links; nodes = list_of (prepared_node project s dt) law.nodes }
+
+-- how the step of this length from a state ends, and the state after it
+unfoldable pub step_end : Project → (dt : ℤ) → Nets → StepEnd
+step_end project dt s = end_of (project_law project) (prepared project dt s) project.options.max_trials
+
+unfoldable pub next_state : Project → (dt : ℤ) → Nets → Nets
+next_state project dt s = trials (project_law project) (prepared project dt s) (step_end project dt s).trials
+
+-- state k of a run: the opening state, and after each step the next one
+unfoldable pub state : Project → ℕ → Nets
+state project zero = opening project
+state project (suc k) = next_state project (length_of project.options k) (state project k)

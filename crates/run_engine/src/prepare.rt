@@ -1,0 +1,131 @@
+// Making a state ready for the trials of a step.
+ghost use Rattle.std.specs.Prelude.{◌≡◌, ◌<◌, length};
+ghost use Rattle.link_eval.specs.Hydraulics.{hydraulics_of, law_of, mid_area_at};
+ghost use Rattle.phase_law.specs.Ranges.{FlowInRange, LengthInRange};
+ghost use Rattle.time_series.specs.LateralFlow.{HasConstantInflows};
+ghost use Rattle.trial_model.specs.Fits.{Fits, FlowsFit, HeadsFit, node_at, number};
+ghost use Rattle.trial_model.specs.Trial.{list_of};
+ghost use Rattle.run_engine.specs.Runnable.{IsRunnable};
+ghost use Rattle.run_engine.specs.Amounts.{AreAmounts, HaveLaterals};
+ghost use Rattle.run_engine.specs.States.{link_start, node_start, prepared, project_law};
+
+use crate::opening::node_stage;
+use link_eval::HydraulicLaw;
+use net_types::Project;
+use phase_law::{LinkFixed, NodeFixed, PhaseLaw};
+use time_series::lateral_flow;
+use trial_model::Nets;
+
+// Makes a state ready for the trials of a step of this length in ms: the flows, heads and net inflows of the state stay
+// the same over the trials, beside the lateral inflows and stages at the step's end.
+pub(crate) fn prepare(project: &Project, law: &HydraulicLaw, dt: i64, nets: &mut Nets)
+    requires project { IsRunnable project.now }
+    requires law { law.now.hydraulics ≡ hydraulics_of project.now }
+    requires fits { Fits (project_law project.now) nets.old }
+    requires dt { LengthInRange dt }
+    ensures nets { nets.new ≡ prepared project.now dt nets.old }
+    ensures fits { Fits (project_law project.now) nets.new }
+{
+    let heads = nets.heads.as_slice();
+    let flows = nets.flows.as_slice();
+    let inflows = nets.inflows.as_slice();
+    let outflows = nets.outflows.as_slice();
+    prepare_links(law, dt, heads, flows, nets.links.as_mut_slice());
+    prepare_nodes(
+        project,
+        dt,
+        heads,
+        inflows,
+        outflows,
+        nets.nodes.as_mut_slice(),
+    );
+}
+
+// Sets what stays the same for every link over a step of this length.
+fn prepare_links(law: &HydraulicLaw, dt: i64, heads: &[i64], flows: &[i64], links: &mut [LinkFixed])
+    requires heads { HeadsFit (law_of law.now.hydraulics) heads.now }
+    requires flows { FlowsFit (law_of law.now.hydraulics) flows.now }
+    requires links { length links.old ≡ (law_of law.now.hydraulics).links }
+    ensures { let h = law.now.hydraulics in links.new ≡ list_of (link_start h heads.now flows.now dt) (law_of h).links }
+{
+    for link in 0..law.links() {
+        links[link as usize] = link_start(law, link, dt, heads, flows);
+    }
+}
+
+// What stays the same for a link over a step. All links are open, which is a setting of 10^6 millionths.
+fn link_start(law: &HydraulicLaw, link: u32, dt: i64, heads: &[i64], flows: &[i64]) -> LinkFixed
+    requires link { link < (law_of law.now.hydraulics).links }
+    requires heads { HeadsFit (law_of law.now.hydraulics) heads.now }
+    requires flows { FlowsFit (law_of law.now.hydraulics) flows.now }
+    ensures { result ≡ link_start law.now.hydraulics heads.now flows.now dt link }
+{
+    LinkFixed {
+        q_old: flows[link as usize],
+        a_old: middle_area(law, link, heads),
+        setting: 1_000_000,
+        dt,
+    }
+}
+
+// The area of flow in the middle of a link, in mm².
+fn middle_area(law: &HydraulicLaw, link: u32, heads: &[i64]) -> i64
+    requires link { link < (law_of law.now.hydraulics).links }
+    requires heads { HeadsFit (law_of law.now.hydraulics) heads.now }
+    ensures { let h = law.now.hydraulics in let ends = (law_of h).ends link in
+        result ≡ mid_area_at h link (number heads.now ends.0) (number heads.now ends.1) }
+{
+    let (near, far) = law.ends(link);
+    law.mid_area(link, heads[near as usize], heads[far as usize])
+}
+
+// Sets what stays the same for every node over a step of this length.
+fn prepare_nodes(
+    project: &Project,
+    dt: i64,
+    heads: &[i64],
+    inflows: &[i64],
+    outflows: &[i64],
+    nodes: &mut [NodeFixed],
+)
+    requires project { IsRunnable project.now }
+    requires heads { length heads.now ≡ length project.now.nodes }
+    requires inflows { AreAmounts (length project.now.nodes) inflows.now }
+    requires outflows { AreAmounts (length project.now.nodes) outflows.now }
+    requires nodes { HaveLaterals (length project.now.nodes) nodes.old }
+    ensures { nodes.new ≡ list_of (node_start project.now heads.now inflows.now outflows.now nodes.old dt) (length project.now.nodes) }
+{
+    let count = project.nodes.as_slice().len() as u32;
+    for n in 0..count {
+        nodes[n as usize] = node_start(project, n, dt, heads, inflows, outflows, nodes);
+    }
+}
+
+// What stays the same for a node over a step.
+fn node_start(
+    project: &Project,
+    n: u32,
+    dt: i64,
+    heads: &[i64],
+    inflows: &[i64],
+    outflows: &[i64],
+    nodes: &[NodeFixed],
+) -> NodeFixed
+    requires project { HasConstantInflows project.now }
+    requires n { n < length project.now.nodes }
+    requires heads { length heads.now ≡ length project.now.nodes }
+    requires inflows { AreAmounts (length project.now.nodes) inflows.now }
+    requires outflows { AreAmounts (length project.now.nodes) outflows.now }
+    requires nodes { length nodes.now ≡ length project.now.nodes }
+    requires last { FlowInRange (node_at nodes.now n).lateral }
+    ensures { result ≡ node_start project.now heads.now inflows.now outflows.now nodes.now dt n }
+{
+    let place = n as usize;
+    NodeFixed {
+        h_old: heads[place],
+        net_old: nodes[place].lateral + inflows[place] - outflows[place],
+        lateral: lateral_flow(project, n, 0),
+        stage: node_stage(project, n),
+        dt,
+    }
+}

@@ -1,0 +1,67 @@
+// One step of a run.
+ghost use Rattle.std.specs.Prelude.{◌≡◌, ◌≤◌, length};
+ghost use Rattle.continuity.specs.StepOf.{IsBelowTops};
+ghost use Rattle.link_eval.specs.Hydraulics.{hydraulics_of};
+ghost use Rattle.phase_law.specs.Ranges.{LengthInRange};
+ghost use Rattle.trial_model.specs.Fits.{Fits};
+ghost use Rattle.trial_model.specs.Trial.{SumsOf};
+ghost use Rattle.run_engine.specs.Kept.{HaveSameCounts};
+ghost use Rattle.run_engine.specs.Runnable.{IsRunnable};
+ghost use Rattle.run_engine.specs.States.{next_state, project_law, step_end};
+
+use crate::prepare::prepare;
+use link_eval::HydraulicLaw;
+use net_types::{List, Project};
+use trial_model::{Nets, StepEnd, step_alone};
+
+// Makes the step of this length in ms from a state to the next, and keeps the state in `before`.
+pub(crate) fn make_step(
+    project: &Project,
+    law: &HydraulicLaw,
+    dt: i64,
+    before: &mut Nets,
+    nets: &mut Nets,
+) -> StepEnd
+    requires project { IsRunnable project.now }
+    requires law { law.now.hydraulics ≡ hydraulics_of project.now }
+    requires dt { LengthInRange dt }
+    requires room { Fits (project_law project.now) before.old }
+    requires fits { Fits (project_law project.now) nets.old }
+    requires tops { IsBelowTops (hydraulics_of project.now) nets.old }
+    ensures before { before.new ≡ nets.old }
+    ensures nets { nets.new ≡ next_state project.now dt nets.old }
+    ensures end { result ≡ step_end project.now dt nets.old }
+
+    // What holds of the end and of the next state.
+    ensures few { result.trials ≤ 20 }
+    ensures fits { Fits (project_law project.now) nets.new }
+    ensures sums { SumsOf (project_law project.now) nets.new }
+    ensures tops { IsBelowTops (hydraulics_of project.now) nets.new }
+{
+    keep(nets, before);
+    prepare(project, law, dt, nets);
+    step_alone(law, nets, project.options.max_trials)
+}
+
+// Copies a state over another of the same network.
+fn keep(nets: &Nets, before: &mut Nets)
+    requires { HaveSameCounts nets.now before.old }
+    ensures { before.new ≡ nets.now }
+{
+    copy(&nets.heads, &mut before.heads);
+    copy(&nets.flows, &mut before.flows);
+    copy(&nets.inflows, &mut before.inflows);
+    copy(&nets.outflows, &mut before.outflows);
+    copy(&nets.areas, &mut before.areas);
+    copy(&nets.read_heads, &mut before.read_heads);
+    copy(&nets.links, &mut before.links);
+    copy(&nets.nodes, &mut before.nodes);
+}
+
+// Copies all items of a list over another of the same length.
+fn copy<T: Copy>(from: &List<T>, to: &mut List<T>)
+    requires { length to.old ≡ length from.now }
+    ensures { to.new ≡ from.now }
+{
+    to.as_mut_slice().copy_from_slice(from.as_slice());
+}
