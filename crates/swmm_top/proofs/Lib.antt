@@ -1,2 +1,4 @@
 mod InputLemmas
 mod OutcomeLemmas
+mod ReadLemmas
+mod RunnableLemmas

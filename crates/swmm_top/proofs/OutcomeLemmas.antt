@@ -7,6 +7,7 @@ use Rattle.std.specs.Bool.{MatchBool}
 use Rattle.std.specs.Io.KnownBytes.{Appends}
 use Rattle.std.proofs.KnownBytes.{Appends-nil}
 use Rattle.net_types.specs.declared.faults.LineFault.{LineFault}
+use Rattle.net_types.specs.declared.faults.ProjectFault.{ProjectFault}
 use Rattle.net_types.specs.declared.project.Project.{Project}
 use Rattle.inp_lines.specs.declared.line.Line.{Line}
 use Rattle.inp_lines.specs.Faults.{cut}
@@ -15,24 +16,27 @@ use Rattle.inp_reader.specs.LineFaults.{line_faults}
 use Rattle.inp_reader.specs.Meaning.{Means}
 use Rattle.inp_reader.proofs.MeaningLemmas.{means_unique}
 use Rattle.fault_ports.specs.Output.{Puts, AppendsPrefix}
-use Rattle.report_writer.specs.FaultReports.{line_faults_report, project_faults_report, input_too_long_report}
+use Rattle.project_check.specs.ProjectFaults.{project_faults}
+use Rattle.report_writer.specs.FaultReports.{line_faults_report, input_too_long_report}
 use Rattle.swmm_top.specs.Answers.{HasGiven, GivesOutcome, ReportsOutcome}
 use Rattle.swmm_top.specs.CommandWords.{Command, run, check, run_only, check_only}
 use Rattle.swmm_top.specs.Input.{TakesFront, input_limit}
-use Rattle.swmm_top.specs.Outcome.{Outcome, IsOutcome, IsInputOutcome, IsLinesOutcome, usage, refused, project_fault_of}
+use Rattle.swmm_top.specs.Outcome.{Outcome, IsOutcome, IsInputOutcome, IsLinesOutcome, usage, refused, answer_of, answer_unless, project_outcome}
+use Rattle.swmm_top.specs.declared.mode.Mode.{Mode}
+use Rattle.swmm_top.specs.declared.mode.Mode.TheVariants.{Run, Check}
 use Rattle.swmm_top.specs.declared.status.Status.{Status}
-use Rattle.swmm_top.specs.declared.status.Status.TheVariants.{Usage, Refused}
+use Rattle.swmm_top.specs.declared.status.Status.TheVariants.{Usage}
 use Rattle.swmm_top.specs.declared.fault.TopFault.{TopFault}
 
 -- what faults of lines give
-pub lines_refused : (lines : List Line) (faults : List LineFault) → line_faults lines ≢ [] → faults ≡ cut (line_faults lines) → IsLinesOutcome lines (refused (line_faults_report faults))
+pub lines_refused : (mode : Mode) (lines : List Line) (faults : List LineFault) → line_faults lines ≢ [] → faults ≡ cut (line_faults lines) → IsLinesOutcome mode lines (refused (line_faults_report faults))
 unfolding IsLinesOutcome
-lines_refused lines faults some is = (λ _. ap (λ l. refused (line_faults_report l)) is, λ bare. absurd (some bare))
+lines_refused mode lines faults some is = (λ _. ap (λ l. refused (line_faults_report l)) is, λ bare. absurd (some bare))
 
 -- what lines without a fault give
-pub lines_meant : (lines : List Line) (project : Project) → line_faults lines ≡ [] → Means lines project → IsLinesOutcome lines (refused (project_faults_report (project_fault_of project ∷ [])))
+pub lines_meant : (mode : Mode) (lines : List Line) (project : Project) → line_faults lines ≡ [] → Means lines project → IsLinesOutcome mode lines (project_outcome mode project)
 unfolding IsLinesOutcome
-lines_meant lines project bare means = (λ some. absurd (some bare), λ _. (project, means, refl))
+lines_meant mode lines project bare means = (λ some. absurd (some bare), λ _. (project, means, refl))
 
 -- a list is empty or not
 bare_or : {A : Type 0} (xs : List A) (P : Type 0) → (xs ≡ [] → P) → (xs ≢ [] → P) → P
@@ -40,19 +44,28 @@ bare_or [] P p q = p refl
 bare_or (x ∷ xs) P p q = q (λ e. cc)
 
 -- lines have one outcome
-lines_one : (lines : List Line) (a b : Outcome) → IsLinesOutcome lines a → IsLinesOutcome lines b → a ≡ b
+lines_one : (mode : Mode) (lines : List Line) (a b : Outcome) → IsLinesOutcome mode lines a → IsLinesOutcome mode lines b → a ≡ b
 unfolding IsLinesOutcome
-lines_one lines a b p q =
+lines_one mode lines a b p q =
     bare_or (line_faults lines) (a ≡ b)
     (λ bare. let pa = p.1 bare in let pb = q.1 bare in
-    pa.2 ∙ ap (λ project. refused (project_faults_report (project_fault_of project ∷ []))) (means_unique lines pa.0 pb.0 pa.1 pb.1) ∙ sym pb.2)
+    pa.2 ∙ ap (λ project. project_outcome mode project) (means_unique lines pa.0 pb.0 pa.1 pb.1) ∙ sym pb.2)
     (λ some. p.0 some ∙ sym (q.0 some))
 
-lines_no_hotstart : (lines : List Line) (given : Outcome) → IsLinesOutcome lines given → given.hotstart ≡ []
+-- no mode writes a hotstart
+answer_no_hotstart : (mode : Mode) (project : Project) → (answer_of mode project).hotstart ≡ []
+answer_no_hotstart Run project = refl
+answer_no_hotstart Check project = refl
+
+unless_no_hotstart : (faults : List ProjectFault) (answer : Outcome) → answer.hotstart ≡ [] → (answer_unless faults answer).hotstart ≡ []
+unless_no_hotstart [] answer bare = bare
+unless_no_hotstart (fault ∷ faults) answer bare = refl
+
+lines_no_hotstart : (mode : Mode) (lines : List Line) (given : Outcome) → IsLinesOutcome mode lines given → given.hotstart ≡ []
 unfolding IsLinesOutcome
-lines_no_hotstart lines given p =
+lines_no_hotstart mode lines given p =
     bare_or (line_faults lines) (given.hotstart ≡ [])
-    (λ bare. ap (λ (o : Outcome). o.hotstart) (p.1 bare).2)
+    (λ bare. let said = p.1 bare in ap (λ (o : Outcome). o.hotstart) said.2 ∙ unless_no_hotstart (project_faults said.0) (answer_of mode said.0) (answer_no_hotstart mode said.0))
     (λ some. ap (λ (o : Outcome). o.hotstart) (p.0 some))
 
 -- a fact that follows in both branches
@@ -65,26 +78,26 @@ both_equal true P Q P' Q' R p q h k = p h k
 both_equal false P Q P' Q' R p q h k = q h k
 
 -- an input has one outcome
-pub input_one : (input : List ℕ) (a b : Outcome) → IsInputOutcome input a → IsInputOutcome input b → a ≡ b
+pub input_one : (mode : Mode) (input : List ℕ) (a b : Outcome) → IsInputOutcome mode input a → IsInputOutcome mode input b → a ≡ b
 unfolding IsInputOutcome
-input_one input a b p q = both_equal (nat_lt input_limit (length input)) _ _ _ _ (a ≡ b) (λ h k. h ∙ sym k) (λ h k. lines_one (lines_of input) a b h k) p q
+input_one mode input a b p q = both_equal (nat_lt input_limit (length input)) _ _ _ _ (a ≡ b) (λ h k. h ∙ sym k) (λ h k. lines_one mode (lines_of input) a b h k) p q
 
-no_hotstart : (input : List ℕ) (given : Outcome) → IsInputOutcome input given → given.hotstart ≡ []
+no_hotstart : (mode : Mode) (input : List ℕ) (given : Outcome) → IsInputOutcome mode input given → given.hotstart ≡ []
 unfolding IsInputOutcome
-no_hotstart input given p = both_branches (nat_lt input_limit (length input)) _ _ (given.hotstart ≡ []) (λ h. ap (λ (o : Outcome). o.hotstart) h) (lines_no_hotstart (lines_of input) given) p
+no_hotstart mode input given p = both_branches (nat_lt input_limit (length input)) _ _ (given.hotstart ≡ []) (λ h. ap (λ (o : Outcome). o.hotstart) h) (lines_no_hotstart mode (lines_of input) given) p
 
 not_lt : (m n : ℕ) → n ≤ m → nat_lt m n ≡ false
 not_lt m n few = grind (arith, nat_tests)
 
 -- an input within the limit gives what its lines give; another is too long
-pub input_short : (input : List ℕ) (given : Outcome) → length input ≤ input_limit → IsLinesOutcome (lines_of input) given → IsInputOutcome input given
+pub input_short : (mode : Mode) (input : List ℕ) (given : Outcome) → length input ≤ input_limit → IsLinesOutcome mode (lines_of input) given → IsInputOutcome mode input given
 unfolding IsInputOutcome
-input_short input given few p =
-    subst (λ b. MatchBool b (given ≡ refused input_too_long_report) (IsLinesOutcome (lines_of input) given)) (sym (not_lt input_limit (length input) few)) p
+input_short mode input given few p =
+    subst (λ b. MatchBool b (given ≡ refused input_too_long_report) (IsLinesOutcome mode (lines_of input) given)) (sym (not_lt input_limit (length input) few)) p
 
-pub input_long : (input : List ℕ) → input_limit < length input → IsInputOutcome input (refused input_too_long_report)
+pub input_long : (mode : Mode) (input : List ℕ) → input_limit < length input → IsInputOutcome mode input (refused input_too_long_report)
 unfolding IsInputOutcome
-input_long input more = subst (λ b. MatchBool b (refused input_too_long_report ≡ refused input_too_long_report) (IsLinesOutcome (lines_of input) (refused input_too_long_report))) (sym (lt-ltb _ _ more)) refl
+input_long mode input more = subst (λ b. MatchBool b (refused input_too_long_report ≡ refused input_too_long_report) (IsLinesOutcome mode (lines_of input) (refused input_too_long_report))) (sym (lt-ltb _ _ more)) refl
 
 -- the bytes up to one past a limit tell whether there are more than the limit, and are all of them if not
 front_to : (limit : ℕ) (input : List ℕ) (P : Type 0) (Q : List ℕ → Type 0) → MatchBool (nat_lt limit (length (take (limit + 1) input))) P (Q (take (limit + 1) input)) → MatchBool (nat_lt limit (length input)) P (Q input)
@@ -105,42 +118,42 @@ front_from limit input P Q h =
       | inr few ↦ subst (λ bytes. MatchBool (nat_lt limit (length bytes)) P (Q bytes)) (sym (take_all (limit + 1) input (omega arith))) h
     ]
 
-outcome_to : (input : List ℕ) (given : Outcome) → IsInputOutcome (take (input_limit + 1) input) given → IsInputOutcome input given
+outcome_to : (mode : Mode) (input : List ℕ) (given : Outcome) → IsInputOutcome mode (take (input_limit + 1) input) given → IsInputOutcome mode input given
 unfolding IsInputOutcome
-outcome_to input given h = front_to input_limit input (given ≡ refused input_too_long_report) (λ bytes. IsLinesOutcome (lines_of bytes) given) h
+outcome_to mode input given h = front_to input_limit input (given ≡ refused input_too_long_report) (λ bytes. IsLinesOutcome mode (lines_of bytes) given) h
 
-outcome_from : (input : List ℕ) (given : Outcome) → IsInputOutcome input given → IsInputOutcome (take (input_limit + 1) input) given
+outcome_from : (mode : Mode) (input : List ℕ) (given : Outcome) → IsInputOutcome mode input given → IsInputOutcome mode (take (input_limit + 1) input) given
 unfolding IsInputOutcome
-outcome_from input given h = front_from input_limit input (given ≡ refused input_too_long_report) (λ bytes. IsLinesOutcome (lines_of bytes) given) h
+outcome_from mode input given h = front_from input_limit input (given ≡ refused input_too_long_report) (λ bytes. IsLinesOutcome mode (lines_of bytes) given) h
 
 -- what was reported of the front that is read was reported of the whole input
-front_reported : (input shown : List ℕ) (rpt₀ rpt : Option (List ℕ)) (result : Result Status TopFault) → shown ≡ take (input_limit + 1) input → ReportsOutcome shown rpt₀ rpt result → ReportsOutcome input rpt₀ rpt result
-front_reported input shown rpt₀ rpt (Ok status) is said =
+front_reported : (mode : Mode) (input shown : List ℕ) (rpt₀ rpt : Option (List ℕ)) (result : Result Status TopFault) → shown ≡ take (input_limit + 1) input → ReportsOutcome mode shown rpt₀ rpt result → ReportsOutcome mode input rpt₀ rpt result
+front_reported mode input shown rpt₀ rpt (Ok status) is said =
     let e = said.ended in
-    record { ended = (e.0, outcome_to input e.0 (subst (λ bytes. IsInputOutcome bytes e.0) is e.1), e.2, e.3); failed = tt }
-front_reported input shown rpt₀ rpt (Err fault) is said =
-    record { ended = tt; failed = λ given of. said.failed given (subst (λ bytes. IsInputOutcome bytes given) (sym is) (outcome_from input given of)) }
+    record { ended = (e.0, outcome_to mode input e.0 (subst (λ bytes. IsInputOutcome mode bytes e.0) is e.1), e.2, e.3); failed = tt }
+front_reported mode input shown rpt₀ rpt (Err fault) is said =
+    record { ended = tt; failed = λ given of. said.failed given (subst (λ bytes. IsInputOutcome mode bytes given) (sym is) (outcome_from mode input given of)) }
 
 -- what was reported of the bytes taken was reported of the input
-pub reported_front : (told left : Option (List ℕ)) (bytes shown : List ℕ) (rpt₀ rpt : Option (List ℕ)) (result : Result Status TopFault) → TakesFront (input_limit + 1) told left bytes → shown ≡ bytes
-    → ReportsOutcome shown rpt₀ rpt result → IfSome told (λ input. ReportsOutcome input rpt₀ rpt result)
-reported_front None left bytes shown rpt₀ rpt result front same said = tt
-reported_front (Some input) left bytes shown rpt₀ rpt result front same said = front_reported input shown rpt₀ rpt result (same ∙ front.0) said
+pub reported_front : (mode : Mode) (told left : Option (List ℕ)) (bytes shown : List ℕ) (rpt₀ rpt : Option (List ℕ)) (result : Result Status TopFault) → TakesFront (input_limit + 1) told left bytes → shown ≡ bytes
+    → ReportsOutcome mode shown rpt₀ rpt result → IfSome told (λ input. ReportsOutcome mode input rpt₀ rpt result)
+reported_front mode None left bytes shown rpt₀ rpt result front same said = tt
+reported_front mode (Some input) left bytes shown rpt₀ rpt result front same said = front_reported mode input shown rpt₀ rpt result (same ∙ front.0) said
 
 -- a front of no bytes is put
 pub nothing_put : (held : Option (List ℕ)) (bytes : List ℕ) → AppendsPrefix held held bytes
 nothing_put held bytes = (0, omega arith, Appends-nil held)
 
--- a report that was put whole, or a front of it
-pub report_put : (input : List ℕ) (rpt₀ rpt : Option (List ℕ)) (result : Result Status TopFault) (report : List ℕ) → IsInputOutcome input (refused report)
-    → IfOk result (λ status. status ≡ Refused) → Puts rpt₀ rpt report result → ReportsOutcome input rpt₀ rpt result
-report_put input rpt₀ rpt (Ok status) report is ended put = record { ended = (refused report, is, ended, put); failed = tt }
-report_put input rpt₀ rpt (Err fault) report is ended put =
-    record { ended = tt; failed = λ given of. subst (λ (o : Outcome). AppendsPrefix rpt₀ rpt o.report) (input_one input (refused report) given is of) put }
+-- the report of the outcome was put whole, or a front of it
+pub report_put : (mode : Mode) (input : List ℕ) (given : Outcome) (rpt₀ rpt : Option (List ℕ)) (result : Result Status TopFault) → IsInputOutcome mode input given
+    → IfOk result (λ status. status ≡ given.status) → Puts rpt₀ rpt given.report result → ReportsOutcome mode input rpt₀ rpt result
+report_put mode input given rpt₀ rpt (Ok status) is ended put = record { ended = (given, is, ended, put); failed = tt }
+report_put mode input given rpt₀ rpt (Err fault) is ended put =
+    record { ended = tt; failed = λ other of. subst (λ (o : Outcome). AppendsPrefix rpt₀ rpt o.report) (input_one mode input given other is of) put }
 
 -- nothing was put before a fault
-pub nothing_reported : (input : List ℕ) (rpt : Option (List ℕ)) (fault : TopFault) → ReportsOutcome input rpt rpt (Err fault)
-nothing_reported input rpt fault = record { ended = tt; failed = λ given of. nothing_put rpt given.report }
+pub nothing_reported : (mode : Mode) (input : List ℕ) (rpt : Option (List ℕ)) (fault : TopFault) → ReportsOutcome mode input rpt rpt (Err fault)
+nothing_reported mode input rpt fault = record { ended = tt; failed = λ given of. nothing_put rpt given.report }
 
 -- a fact of what is told passes to another that follows from it
 lift_some : (told : Option (List ℕ)) (P Q : List ℕ → Type 0) → ((input : List ℕ) → P input → Q input) → IfSome told P → IfSome told Q
@@ -151,34 +164,34 @@ lift_some (Some input) P Q f h = f input h
 kept_hotstart : (hot : Option (List ℕ)) (bytes : List ℕ) → bytes ≡ [] → Appends hot hot bytes
 kept_hotstart hot bytes bare = subst (Appends hot hot) (sym bare) (Appends-nil hot)
 
-ended_of : (left rpt₀ rpt hot : Option (List ℕ)) (status : Status) → IfSome left (λ input. ReportsOutcome input rpt₀ rpt (Ok status))
-    → IfSome left (λ input. (given : Outcome) × IsInputOutcome input given × HasGiven rpt₀ rpt hot hot status given)
-ended_of left rpt₀ rpt hot status said =
+ended_of : (mode : Mode) (left rpt₀ rpt hot : Option (List ℕ)) (status : Status) → IfSome left (λ input. ReportsOutcome mode input rpt₀ rpt (Ok status))
+    → IfSome left (λ input. (given : Outcome) × IsInputOutcome mode input given × HasGiven rpt₀ rpt hot hot status given)
+ended_of mode left rpt₀ rpt hot status said =
     lift_some left _ _ (λ input told.
     let e = told.ended in
-    (e.0, e.1, record { status_is = e.2; report = e.3; hotstart = kept_hotstart hot _ (no_hotstart input e.0 e.1) })) said
+    (e.0, e.1, record { status_is = e.2; report = e.3; hotstart = kept_hotstart hot _ (no_hotstart mode input e.0 e.1) })) said
 
-failed_of : (left rpt₀ rpt : Option (List ℕ)) (fault : TopFault) → IfSome left (λ input. ReportsOutcome input rpt₀ rpt (Err fault))
-    → IfSome left (λ input. (given : Outcome) → IsInputOutcome input given → AppendsPrefix rpt₀ rpt given.report)
-failed_of left rpt₀ rpt fault said = lift_some left _ _ (λ input told. told.failed) said
+failed_of : (mode : Mode) (left rpt₀ rpt : Option (List ℕ)) (fault : TopFault) → IfSome left (λ input. ReportsOutcome mode input rpt₀ rpt (Err fault))
+    → IfSome left (λ input. (given : Outcome) → IsInputOutcome mode input given → AppendsPrefix rpt₀ rpt given.report)
+failed_of mode left rpt₀ rpt fault said = lift_some left _ _ (λ input told. told.failed) said
 
 -- a run gives the outcome of its input
 pub run_gives : (left hot_in rpt₀ rpt hot : Option (List ℕ)) (result : Result Status TopFault) (command : Option Command) (inp_name rpt_name : List ℕ) → Some (run inp_name rpt_name) ≡ command
-    → IfSome left (λ input. ReportsOutcome input rpt₀ rpt result) → GivesOutcome (run_only command) left hot_in rpt₀ rpt hot hot result
+    → IfSome left (λ input. ReportsOutcome Run input rpt₀ rpt result) → GivesOutcome (run_only command) left hot_in rpt₀ rpt hot hot result
 unfolding IsOutcome
 run_gives left hot_in rpt₀ rpt hot (Ok status) command inp_name rpt_name is said =
-    subst (λ c. GivesOutcome (run_only c) left hot_in rpt₀ rpt hot hot (Ok status)) is (record { ended = ended_of left rpt₀ rpt hot status said; failed = tt })
+    subst (λ c. GivesOutcome (run_only c) left hot_in rpt₀ rpt hot hot (Ok status)) is (record { ended = ended_of Run left rpt₀ rpt hot status said; failed = tt })
 run_gives left hot_in rpt₀ rpt hot (Err fault) command inp_name rpt_name is said =
-    subst (λ c. GivesOutcome (run_only c) left hot_in rpt₀ rpt hot hot (Err fault)) is (record { ended = tt; failed = failed_of left rpt₀ rpt fault said })
+    subst (λ c. GivesOutcome (run_only c) left hot_in rpt₀ rpt hot hot (Err fault)) is (record { ended = tt; failed = failed_of Run left rpt₀ rpt fault said })
 
 -- a check gives the outcome of its input
 pub check_gives : (left hot_in rpt₀ rpt hot : Option (List ℕ)) (result : Result Status TopFault) (command : Option Command) (inp_name rpt_name : List ℕ) → Some (check inp_name rpt_name) ≡ command
-    → IfSome left (λ input. ReportsOutcome input rpt₀ rpt result) → GivesOutcome (check_only command) left hot_in rpt₀ rpt hot hot result
+    → IfSome left (λ input. ReportsOutcome Check input rpt₀ rpt result) → GivesOutcome (check_only command) left hot_in rpt₀ rpt hot hot result
 unfolding IsOutcome
 check_gives left hot_in rpt₀ rpt hot (Ok status) command inp_name rpt_name is said =
-    subst (λ c. GivesOutcome (check_only c) left hot_in rpt₀ rpt hot hot (Ok status)) is (record { ended = ended_of left rpt₀ rpt hot status said; failed = tt })
+    subst (λ c. GivesOutcome (check_only c) left hot_in rpt₀ rpt hot hot (Ok status)) is (record { ended = ended_of Check left rpt₀ rpt hot status said; failed = tt })
 check_gives left hot_in rpt₀ rpt hot (Err fault) command inp_name rpt_name is said =
-    subst (λ c. GivesOutcome (check_only c) left hot_in rpt₀ rpt hot hot (Err fault)) is (record { ended = tt; failed = failed_of left rpt₀ rpt fault said })
+    subst (λ c. GivesOutcome (check_only c) left hot_in rpt₀ rpt hot hot (Err fault)) is (record { ended = tt; failed = failed_of Check left rpt₀ rpt fault said })
 
 -- words that are no command give `Usage` and nothing else
 pub usage_gives : (command : Option Command) (left hot_in rpt hot : Option (List ℕ)) → command ≡ None → GivesOutcome command left hot_in rpt rpt hot hot (Ok Usage)
@@ -188,17 +201,17 @@ usage_gives command left hot_in rpt hot is =
     (record { ended = (usage, refl, record { status_is = refl; report = Appends-nil rpt; hotstart = Appends-nil hot }); failed = tt })
 
 -- what a check gives on its own it gives when it was handed on
-handed_ended : (left rpt₀ rpt hot : Option (List ℕ)) (status : Status) → IfSome left (λ input. (given : Outcome) × IsInputOutcome input given × HasGiven rpt₀ rpt None None status given)
-    → IfSome left (λ input. (given : Outcome) × IsInputOutcome input given × HasGiven rpt₀ rpt hot hot status given)
-handed_ended left rpt₀ rpt hot status said =
-    lift_some left _ _ (λ input e. (e.0, e.1, record { status_is = e.2.status_is; report = e.2.report; hotstart = kept_hotstart hot _ (no_hotstart input e.0 e.1) })) said
+handed_ended : (mode : Mode) (left rpt₀ rpt hot : Option (List ℕ)) (status : Status) → IfSome left (λ input. (given : Outcome) × IsInputOutcome mode input given × HasGiven rpt₀ rpt None None status given)
+    → IfSome left (λ input. (given : Outcome) × IsInputOutcome mode input given × HasGiven rpt₀ rpt hot hot status given)
+handed_ended mode left rpt₀ rpt hot status said =
+    lift_some left _ _ (λ input e. (e.0, e.1, record { status_is = e.2.status_is; report = e.2.report; hotstart = kept_hotstart hot _ (no_hotstart mode input e.0 e.1) })) said
 
 pub check_handed : (command : Option Command) (inp_name rpt_name : List ℕ) (left hot_in rpt₀ rpt hot : Option (List ℕ)) (result : Result Status TopFault) → Some (check inp_name rpt_name) ≡ command
     → GivesOutcome (check_only command) left None rpt₀ rpt None None result → GivesOutcome command left hot_in rpt₀ rpt hot hot result
 unfolding IsOutcome
 check_handed command inp_name rpt_name left hot_in rpt₀ rpt hot (Ok status) is =
     subst (λ c. GivesOutcome (check_only c) left None rpt₀ rpt None None (Ok status) → GivesOutcome c left hot_in rpt₀ rpt hot hot (Ok status)) is
-    (λ said. record { ended = handed_ended left rpt₀ rpt hot status said.ended; failed = tt })
+    (λ said. record { ended = handed_ended Check left rpt₀ rpt hot status said.ended; failed = tt })
 check_handed command inp_name rpt_name left hot_in rpt₀ rpt hot (Err fault) is =
     subst (λ c. GivesOutcome (check_only c) left None rpt₀ rpt None None (Err fault) → GivesOutcome c left hot_in rpt₀ rpt hot hot (Err fault)) is
     (λ said. record { ended = tt; failed = said.failed })
@@ -207,5 +220,5 @@ check_handed command inp_name rpt_name left hot_in rpt₀ rpt hot (Err fault) is
 pub outcome_one : (command : Option Command) (input hotstart : List ℕ) (a b : Outcome) → IsOutcome command input hotstart a → IsOutcome command input hotstart b → a ≡ b
 unfolding IsOutcome
 outcome_one None input hotstart a b p q = p ∙ sym q
-outcome_one (Some (run inp_name rpt_name)) input hotstart a b p q = input_one input a b p q
-outcome_one (Some (check inp_name rpt_name)) input hotstart a b p q = input_one input a b p q
+outcome_one (Some (run inp_name rpt_name)) input hotstart a b p q = input_one Run input a b p q
+outcome_one (Some (check inp_name rpt_name)) input hotstart a b p q = input_one Check input a b p q

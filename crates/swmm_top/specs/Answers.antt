@@ -7,6 +7,7 @@ use Rattle.swmm_top.specs.CommandWords.{Command}
 use Rattle.swmm_top.specs.Input.{input_limit}
 use Rattle.swmm_top.specs.Outcome.{Outcome, Gives, GivesOnly, IsInputOutcome}
 use Rattle.swmm_top.specs.TopFaults.{IsFaultOfPort}
+use Rattle.swmm_top.specs.declared.mode.Mode.{Mode}
 use Rattle.swmm_top.specs.declared.status.Status.{Status}
 use Rattle.swmm_top.specs.declared.fault.Port.TheVariants.{Inp, HotIn, Rpt, HotOut}
 use Rattle.swmm_top.specs.declared.fault.TopFault.{TopFault}
@@ -24,10 +25,10 @@ pub record GivesOutcome (command : Option Command) (inp hot_in rpt₀ rpt hot₀
   pub ended : IfOk result (λ status. Gives command inp hot_in (HasGiven rpt₀ rpt hot₀ hot status))
   pub failed : OnErr result (GivesOnly command inp hot_in (λ given. AppendsPrefix rpt₀ rpt given.report))
 
--- the same of an input and its report alone
-pub record ReportsOutcome (input : List ℕ) (rpt₀ rpt : Option (List ℕ)) (result : Result Status TopFault) : Type 0 where
-  pub ended : IfOk result (λ status. (given : Outcome) × IsInputOutcome input given × (status ≡ given.status) × Appends rpt₀ rpt given.report)
-  pub failed : OnErr result ((given : Outcome) → IsInputOutcome input given → AppendsPrefix rpt₀ rpt given.report)
+-- the same of a mode, an input and its report alone
+pub record ReportsOutcome (mode : Mode) (input : List ℕ) (rpt₀ rpt : Option (List ℕ)) (result : Result Status TopFault) : Type 0 where
+  pub ended : IfOk result (λ status. (given : Outcome) × IsInputOutcome mode input given × (status ≡ given.status) × Appends rpt₀ rpt given.report)
+  pub failed : OnErr result ((given : Outcome) → IsInputOutcome mode input given → AppendsPrefix rpt₀ rpt given.report)
 
 -- a fault comes only where the count of faults of its port rose, and where no count rose only memory can be wanting
 pub record HasCauses (inp₀ inp hot_in₀ hot_in rpt₀ rpt hot_out₀ hot_out : ℕ) (result : Result Status TopFault) : Type 0 where

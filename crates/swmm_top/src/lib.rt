@@ -10,8 +10,12 @@ mod command;
 mod fault;
 mod input;
 mod laws;
+mod mode;
 mod names;
+#[cfg(test)]
+mod reach_tests;
 mod report;
+mod run;
 mod status;
 #[cfg(test)]
 mod tests;

@@ -10,6 +10,7 @@ ghost use Rattle.swmm_top.specs.Input.{TakesFront, input_limit};
 use crate::command::{Command, read_words};
 use crate::fault::{Port, TopFault};
 use crate::input::{ReadFault, read_front};
+use crate::mode::Mode;
 use crate::report::report_input;
 use crate::status::Status;
 use fault_ports::{Gate, Sink, Source};
@@ -46,7 +47,7 @@ pub fn run_alone_top<S: Source, H: Source, W: Sink, K: Sink>(
     ensures unused_by_usage { run_only (command_of words.now) ≡ None → (inp.new ≡ inp.old) × (rpt.new ≡ rpt.old) }
 {
     match read_words(words) {
-        Some(Command::Run { .. }) => run_input(alloc, inp, rpt),
+        Some(Command::Run { .. }) => run_input(alloc, Mode::Run, inp, rpt),
         Some(Command::Check { .. }) => Ok(Status::Usage),
         None => Ok(Status::Usage),
     }
@@ -74,7 +75,7 @@ pub fn check_top<S: Source, W: Sink>(
     ensures unused_by_usage { check_only (command_of words.now) ≡ None → (inp.new ≡ inp.old) × (rpt.new ≡ rpt.old) }
 {
     match read_words(words) {
-        Some(Command::Check { .. }) => run_input(alloc, inp, rpt),
+        Some(Command::Check { .. }) => run_input(alloc, Mode::Check, inp, rpt),
         Some(Command::Run { .. }) => Ok(Status::Usage),
         None => Ok(Status::Usage),
     }
@@ -113,13 +114,14 @@ pub fn swmm_top<R: Threads + Wait + Sync, S: Source, H: Source, W: Sink, K: Sink
     }
 }
 
-// Reads the input and reports it.
+// Reads the input and reports what the mode gives for it.
 fn run_input<S: Source, W: Sink>(
     alloc: Global,
+    mode: Mode,
     inp: &mut S,
     rpt: &mut W,
 ) -> Result<Status, TopFault>
-    ensures outcome { IfSome (S.left inp.old) (λ input. ReportsOutcome input (W.held rpt.old) (W.held rpt.new) result) }
+    ensures outcome { IfSome (S.left inp.old) (λ input. ReportsOutcome mode input (W.held rpt.old) (W.held rpt.new) result) }
     ensures no_usage { IfOk result (λ status. status ≡ Status.Usage → ⊥) }
     ensures read_input { IsErrOf result (TopFault.Read Port.Inp) → Rose (S.faults inp.old) (S.faults inp.new) }
     ensures write_report { IsErrOf result (TopFault.Write Port.Rpt) → Rose (W.faults rpt.old) (W.faults rpt.new) }
@@ -128,7 +130,7 @@ fn run_input<S: Source, W: Sink>(
     ensures unwritten { IsErrOf result (TopFault.Read Port.Inp) → rpt.new ≡ rpt.old }
 {
     match read_input(alloc, inp) {
-        Ok(bytes) => report_input(alloc, &bytes, rpt),
+        Ok(bytes) => report_input(alloc, mode, &bytes, rpt),
         Err(fault) => Err(fault),
     }
 }

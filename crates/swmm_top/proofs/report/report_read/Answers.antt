@@ -8,9 +8,9 @@ use Rattle.swmm_top.proofs.report.report_read.Goals as goal
 pub returns-in-Refused-clause-outcome : goal.returns-in-Refused-clause-outcome
 returns-in-Refused-clause-outcome g c = λ input few reads.
     let found = subst (ReadsAs (lines_of input)) c.in-Refused.is reads in
-    report_put input _ _ _ _ (input_short input _ few (lines_refused (lines_of input) _ found.0 found.1)) c.report_line_faults.ensures.status c.report_line_faults.ensures.report
+    report_put _ input _ _ _ _ (input_short _ input _ few (lines_refused _ (lines_of input) _ found.0 found.1)) c.report_line_faults.ensures.status c.report_line_faults.ensures.report
 
 pub returns-in-Accepted-clause-outcome : goal.returns-in-Accepted-clause-outcome
 returns-in-Accepted-clause-outcome g c = λ input few reads.
     let found = subst (ReadsAs (lines_of input)) c.in-Accepted.is reads in
-    report_put input _ _ _ _ (input_short input _ few (lines_meant (lines_of input) _ found.0 found.1)) c.report_project.ensures.status c.report_project.ensures.report
+    report_put _ input _ _ _ _ (input_short _ input _ few (lines_meant _ (lines_of input) _ found.0 found.1)) c.report_project.ensures.status c.report_project.ensures.report

@@ -1,0 +1,59 @@
+// The run of a project, and its report.
+ghost use Rattle.std.specs.Prelude.{◌≡◌, ◌⊎◌, IfOk, OnErr, IsErrOf};
+ghost use Rattle.fault_ports.specs.Causes.{Rose};
+ghost use Rattle.fault_ports.specs.Output.{Puts};
+ghost use Rattle.run_engine.specs.Report.{report_of};
+ghost use Rattle.run_engine.specs.Runnable.{IsRunnable};
+
+use crate::fault::{Port, TopFault};
+use crate::report::ended;
+use crate::status::Status;
+use fault_ports::Sink;
+use net_types::{OutOfMemory, Project};
+use run_engine::{Run, RunFault, open_run};
+use std::alloc::Global;
+
+// Makes the run of a project, and reports it.
+pub(crate) fn report_run<W: Sink>(
+    alloc: Global,
+    project: Project,
+    rpt: &mut W,
+) -> Result<Status, TopFault>
+    requires { IsRunnable project }
+    ensures status { IfOk result (λ status. status ≡ Status.Done) }
+    ensures report { Puts (W.held rpt.old) (W.held rpt.new) (report_of project) result }
+    ensures cause { IsErrOf result (TopFault.Write Port.Rpt) → Rose (W.faults rpt.old) (W.faults rpt.new) }
+    ensures faults { OnErr result (IsErrOf result TopFault.OutOfMemory ⊎ IsErrOf result (TopFault.Write Port.Rpt)) }
+{
+    match open_run(alloc, project) {
+        Ok(run) => finish_run(run, rpt),
+        Err(OutOfMemory) => Err(TopFault::OutOfMemory),
+    }
+}
+
+// Makes a run that was just opened, reports it, and gives its memory back.
+fn finish_run<W: Sink>(run: Run, rpt: &mut W) -> Result<Status, TopFault>
+    ensures status { IfOk result (λ status. status ≡ Status.Done) }
+    ensures report { Puts (W.held rpt.old) (W.held rpt.new) (report_of run.project) result }
+    ensures cause { IsErrOf result (TopFault.Write Port.Rpt) → Rose (W.faults rpt.old) (W.faults rpt.new) }
+    ensures faults { OnErr result (IsErrOf result TopFault.OutOfMemory ⊎ IsErrOf result (TopFault.Write Port.Rpt)) }
+{
+    let mut run = run;
+    let answer = make_run(&mut run, rpt);
+    drop(run);
+    answer
+}
+
+// Makes all steps of a run, and reports it.
+fn make_run<W: Sink>(run: &mut Run, rpt: &mut W) -> Result<Status, TopFault>
+    ensures status { IfOk result (λ status. status ≡ Status.Done) }
+    ensures report { Puts (W.held rpt.old) (W.held rpt.new) (report_of run.old.project) result }
+    ensures cause { IsErrOf result (TopFault.Write Port.Rpt) → Rose (W.faults rpt.old) (W.faults rpt.new) }
+    ensures faults { OnErr result (IsErrOf result TopFault.OutOfMemory ⊎ IsErrOf result (TopFault.Write Port.Rpt)) }
+{
+    match run.advance_alone(rpt) {
+        Ok(()) => ended(Status::Done, run.finish(rpt)),
+        Err(RunFault::Write) => Err(TopFault::Write(Port::Rpt)),
+        Err(RunFault::OutOfMemory) => Err(TopFault::OutOfMemory),
+    }
+}
