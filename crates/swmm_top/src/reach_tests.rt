@@ -23,6 +23,13 @@ const ONE_TRIAL: &[u8] =
 const ONE_TRIAL_FIGURES: &[u8] =
     b"\nNode Depth Summary\nJ1 1.019507 20000 1.019507\nO1 1.000000 0 1.000000\n\nLink Flow Summary\nC1 0.009864 20000 0.009864\n\nRouting Steps\nSteps 2\nTrials 2\nNot Converged 2\nEnd of report\n";
 
+// The first of these steps alone.
+const FIRST_STEP: &[u8] =
+    b"[TITLE]\none reach\n[OPTIONS]\nFLOW_UNITS CMS\nSTART_DATE 01/01/2024\nEND_DATE 01/01/2024\nEND_TIME 00:00:10\nROUTING_STEP 10\nREPORT_STEP 00:00:10\nMAX_TRIALS 1\nMIN_SURFAREA 50\nINERTIAL_DAMPING FULL\n[JUNCTIONS]\nJ1 0 3 1 0 0\n[OUTFALLS]\nO1 0 FIXED 1 NO\n[CONDUITS]\nC1 J1 O1 100 0.01 0 0 0 0\n[XSECTIONS]\nC1 RECT_OPEN 2 1 0 0 1\n[INFLOWS]\nJ1 FLOW \"\" FLOW 1.0 1.0 0.1\n";
+
+const FIRST_STEP_FIGURES: &[u8] =
+    b"\nNode Depth Summary\nJ1 1.010000 10000 1.010000\nO1 1.000000 0 1.000000\n\nLink Flow Summary\nC1 0.000000 0 0.000000\n\nRouting Steps\nSteps 1\nTrials 1\nNot Converged 1\nEnd of report\n";
+
 // A surcharge method that is taken as another, with a warning.
 const WARNED: &[u8] =
     b"[TITLE]\none reach\n[OPTIONS]\nFLOW_UNITS LPS\nSURCHARGE_METHOD EXTRAN\nSTART_DATE 2-29-2024\nSTART_TIME 6:30\nEND_TIME 6:30:20\nINERTIAL_DAMPING FULL\n[JUNCTIONS]\nJ1 0 3\n[OUTFALLS]\nO1 0 FIXED 1\n[CONDUITS]\nC1 J1 O1 100 0.01 0 0\n[XSECTIONS]\nC1 RECT_OPEN 2 1\n";
@@ -51,6 +58,14 @@ fn counts_steps_that_do_not_settle(rt: HostRuntime) -> Result<(), Fail> {
     let ran = run_over(rt.alloc(), ONE_TRIAL, 64, &[], &[])?;
     assert_eq!(rt; ran.answer, Ok(Status::Done));
     assert!(rt; ran.report.held().ends_with(ONE_TRIAL_FIGURES));
+    Ok(())
+}
+
+#[test]
+fn ends_the_first_step_without_a_flow(rt: HostRuntime) -> Result<(), Fail> {
+    let ran = run_over(rt.alloc(), FIRST_STEP, 64, &[], &[])?;
+    assert_eq!(rt; ran.answer, Ok(Status::Done));
+    assert!(rt; ran.report.held().ends_with(FIRST_STEP_FIGURES));
     Ok(())
 }
 
