@@ -106,3 +106,20 @@ pub(crate) fn momentum_flow(
     let friction = friction(conduit.n6, velocity, fixed.dt, middle.radius);
     slowed(old, pressure, friction)
 }
+
+#[test]
+fn pressure_drives_a_reach_that_fills(rt: HostRuntime) {
+    assert_eq!(rt; pressure(1_000_000, 0, 10_000, 100_000_000), 0);
+    assert_eq!(rt; pressure(1_005_000, 10_000, 10_000, 100_000_000), 9_864);
+    assert_eq!(rt; pressure(1_004_939, 9_877, 10_000, 100_000_000), 9_742);
+    assert_eq!(rt; pressure(1_009_449, 18_897, 10_000, 100_000_000), 18_722);
+}
+
+#[test]
+fn friction_slows_a_reach_that_fills(rt: HostRuntime) {
+    assert_eq!(rt; velocity(4_932, 1_004_939), 4_908);
+    assert_eq!(rt; velocity(14_671, 1_009_449), 14_534);
+    assert_eq!(rt; friction(10_000, 0, 10_000, 333_887), 0);
+    assert_eq!(rt; friction(10_000, 4_908, 10_000, 333_880), 207_964);
+    assert_eq!(rt; friction(10_000, 14_534, 10_000, 334_377), 614_625);
+}

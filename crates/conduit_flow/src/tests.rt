@@ -152,3 +152,21 @@ fn water_that_stands_in_a_reach(rt: HostRuntime) {
         100_493_900_000
     );
 }
+
+#[test]
+fn the_middle_of_a_reach_that_fills(rt: HostRuntime) {
+    let table = channel(&rt);
+    let reach = reach(0, Limiter::Both);
+    assert_eq!(rt; mid_area(&reach, &table, 1_000_000, 1_000_000), 1_000_000);
+    assert_eq!(rt; mid_area(&reach, &table, 1_010_000, 1_000_000), 1_005_000);
+    assert_eq!(rt; mid_area(&reach, &table, 1_018_897, 1_000_000), 1_009_449);
+}
+
+#[test]
+fn the_hydraulic_radius_of_a_reach_that_fills(rt: HostRuntime) {
+    let table = channel(&rt);
+    assert_eq!(rt; table.radius(1_000_000), 333_333);
+    assert_eq!(rt; table.radius(1_005_000), 333_887);
+    assert_eq!(rt; table.radius(1_004_939), 333_880);
+    assert_eq!(rt; table.radius(1_009_449), 334_377);
+}
