@@ -8,4 +8,6 @@ pub mod RootLaws
 pub mod RootLemmas
 pub mod RoundingLaws
 pub mod RoundingLemmas
+pub mod SignedSums
+pub mod SumLemmas
 pub mod Within

@@ -1,7 +1,10 @@
 pub mod Decimal
 pub mod Interpolation
+pub mod Lists
 pub mod Number
 pub mod Ranges
+pub mod Relaxation
 pub mod Roots
 pub mod Rounding
+pub mod Sums
 pub mod Units

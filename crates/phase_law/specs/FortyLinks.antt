@@ -11,7 +11,7 @@ forty_links = record {
   links = 40;
   limit = 1_000_000;
   ends = λ _. (1, 0);
-  share = λ _ _ _ _ _ _. record { q = pos 7; area1 = pos 1; area2 = pos 2 };
+  share = λ _ _ _ _ _ _. record { q = pos 7; area1 = pos 1; area2 = pos 2; time = pos 3_600_000 };
   next = λ _ _ _ _ _ _ last. record { head = last; settled = true };
 }
 
@@ -24,10 +24,9 @@ forty_links_good = record {
   ends_in = λ link h. record { first = omega arith; second = omega arith; differ = λ e. omega arith };
   share_in = λ link fixed first near far last h1 h2 h3 h4 h5. record {
     flow = record { within = omega arith };
-    area1_least = omega (arith, ints);
-    area1_most = omega (arith, ints);
-    area2_least = omega (arith, ints);
-    area2_most = omega (arith, ints);
+    area1 = record { from = omega (arith, ints); to = omega (arith, ints) };
+    area2 = record { from = omega (arith, ints); to = omega (arith, ints) };
+    time = record { from = omega (arith, ints); to = omega (arith, ints) };
   };
   next_in = λ node fixed first inflow outflow area last h1 h2 h3 h4. h4;
 }

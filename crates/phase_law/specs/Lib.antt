@@ -1,5 +1,4 @@
 pub mod Law
 pub mod Ranges
 pub mod Laws
-pub mod Sums
 pub mod FortyLinks

@@ -1,7 +1,8 @@
 ghost use Rattle.std.specs.Prelude.{◌≡◌, ◌<◌, pos};
+ghost use Rattle.fixed_num.specs.Ranges.{IsFlow};
 ghost use Rattle.phase_law.specs.Law.{Law};
 ghost use Rattle.phase_law.specs.Laws.{IsLaw};
-ghost use Rattle.phase_law.specs.Ranges.{HeadInRange, FlowInRange, LinkInRange, NodeInRange, SumsInRange};
+ghost use Rattle.phase_law.specs.Ranges.{HeadInRange, LinkFixedInRange, NodeFixedInRange, SumsInRange};
 
 use crate::values::{LinkFixed, NodeFixed, NodeNext, Share};
 
@@ -32,7 +33,7 @@ pub trait PhaseLaw: Drop {
         requires { link < (law self.now).links }
         ensures { result ≡ (law self.now).ends link };
 
-    /// The flow and the areas of a link, from the heads at its ends and its flow in the last trial.
+    /// The flow, the areas and the travel time of a link, from the heads at its ends and its flow in the last trial.
     fn link_share(
         &self,
         link: u32,
@@ -43,10 +44,10 @@ pub trait PhaseLaw: Drop {
         last: i64,
     ) -> Share
         requires link { link < (law self.now).links }
-        requires fixed { LinkInRange fixed.now }
+        requires fixed { LinkFixedInRange fixed.now }
         requires near { HeadInRange (law self.now) near }
         requires far { HeadInRange (law self.now) far }
-        requires last { FlowInRange last }
+        requires last { IsFlow last }
         ensures { result ≡ (law self.now).share link fixed.now first near far last };
 
     /// The next head of a node, from its inflow, outflow and area in this trial and its head in the last.
@@ -61,7 +62,7 @@ pub trait PhaseLaw: Drop {
         last: i64,
     ) -> NodeNext
         requires node { node < (law self.now).nodes }
-        requires fixed { NodeInRange (law self.now) fixed.now }
+        requires fixed { NodeFixedInRange (law self.now) fixed.now }
         requires sums { SumsInRange inflow outflow area }
         requires last { HeadInRange (law self.now) last }
         ensures { result ≡ (law self.now).next node fixed.now first inflow outflow area last };

@@ -6,7 +6,7 @@
 //!
 //! The contract that matters: each method gives the value of the meaning, wherever its arguments are in
 //! the law's ranges, and what it gives is in range again. The meaning is in `specs/Law.antt`, the ranges
-//! in `specs/Ranges.antt`, and the sums over links in `specs/Sums.antt`.
+//! are in `specs/Ranges.antt`.
 #![tactic(auto)]
 
 mod law;

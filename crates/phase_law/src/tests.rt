@@ -1,5 +1,5 @@
 ghost use Rattle.std.specs.Prelude.{◌<◌};
-ghost use Rattle.phase_law.specs.Ranges.{LinkInRange};
+ghost use Rattle.phase_law.specs.Ranges.{LinkFixedInRange};
 ghost use Rattle.phase_law.specs.FortyLinks.{forty_links, forty_links_good};
 
 use crate::law::PhaseLaw;
@@ -43,6 +43,7 @@ impl PhaseLaw for FortyLinks {
             q: 7,
             area1: 1,
             area2: 2,
+            time: 3_600_000,
         }
     }
 
@@ -66,7 +67,7 @@ impl PhaseLaw for FortyLinks {
 /// Two counts and a share, asked through the trait alone.
 fn counts_and_flow<P: PhaseLaw>(law: &P, fixed: &LinkFixed) -> (u32, u32, i64)
     requires links { 0 < (P.law law.now).links }
-    requires fixed { LinkInRange fixed.now }
+    requires fixed { LinkFixedInRange fixed.now }
 {
     let share = law.link_share(0, fixed, true, 0, 0, 0);
     (law.nodes(), law.links(), share.q)

@@ -1,12 +1,15 @@
-/// What a link gives in a trial: its flow and the surface area that it adds at each end.
+/// What a link gives in a trial: its flow, the surface area that it adds at each end, and the time that a wave takes
+/// along it.
 ///
 /// `q` is the flow in cm³/s from the first end to the second, negative where water runs back, at most
-/// 10^12 either way. `area1` and `area2` are mm² at the first and the second end, 0 to 5·10^12.
+/// 10^12 either way. `area1` and `area2` are mm² at the first and the second end, 0 to 5·10^12. `time` is in ms, 0 to
+/// 3,600,000; a link that bounds no step has the greatest.
 #[derive(Clone, Copy, Debug, PartialEq, Eq)]
 pub struct Share {
     pub q: i64,
     pub area1: i64,
     pub area2: i64,
+    pub time: i64,
 }
 
 /// What stays the same for a link over all trials of a step.

@@ -1,8 +1,8 @@
--- Laws of sums over the first so many links or nodes.
+-- Laws of sums over the first so many places.
 use Rattle.std.proofs.Common.{◌≡◌, ℕ, zero, suc, ◌+◌, ◌*◌, ◌<◌, ◌≤◌, refl, sym, ap, ◌∙◌, arith, add-one, inl, inr}
 use Rattle.std.proofs.Math.Nat.{eq-or-lt_of_le}
 use Rattle.std.proofs.lemmas.Bool.Decides.{nat_tests}
-use Rattle.phase_law.specs.Sums.{below, at}
+use Rattle.fixed_num.specs.Sums.{below, at}
 
 -- one more term
 pub below_next : (f : ℕ → ℕ) (n : ℕ) → below f (n + 1) ≡ below f n + f n
