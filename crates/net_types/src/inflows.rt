@@ -2,7 +2,7 @@
 use crate::list::List;
 
 /// A direct inflow of a node: scale times the series, plus the baseline times the pattern's factor, in millionths
-/// of the user's flow unit. Node, series and pattern go by their numbers.
+/// of the user's flow unit, each within 10^15. Node, series and pattern go by their numbers.
 #[derive(Clone, Copy, Debug, PartialEq, Eq)]
 pub struct Inflow {
     pub node: u32,
@@ -12,7 +12,8 @@ pub struct Inflow {
     pub pattern: Option<u32>,
 }
 
-/// A dry weather flow of a node: a base in millionths of the user's flow unit, changed by each pattern in turn.
+/// A dry weather flow of a node: a base in millionths of the user's flow unit, within 10^15, changed by each of at most
+/// four patterns in turn.
 #[derive(Debug, Drop)]
 pub struct DryFlow {
     pub node: u32,

@@ -2,6 +2,10 @@
 //! the account of a routing step. A `Text` is seen by contracts as the list of its bytes and a `List` as the list
 //! of its items; the other types are seen field by field. All lengths are µm, areas mm², flows cm³/s, times ms and
 //! volumes mm³; the records of hydrology use nm and nm/h; a name that ends in `6` counts millionths.
+//!
+//! `specs/Ranges.antt` has the range of each record, `specs/Sound.antt` says when a whole project is sound: its records
+//! in range, its numbers naming objects, its counts within their limits. `FaultKind` is the one home of the numbers and
+//! words of faults (`specs/Faults.antt`).
 #![tactic(auto)]
 
 mod account;
@@ -20,7 +24,7 @@ mod tests;
 mod text;
 
 pub use account::StepAccount;
-pub use faults::{LineFault, ProjectFault};
+pub use faults::{FaultKind, LineFault, ProjectFault, numbers_have_one_kind};
 pub use hydrology::{Gage, Infil, Sub, SubAreas};
 pub use inflows::{DryFlow, Inflow};
 pub use list::List;

@@ -5,7 +5,7 @@ use crate::text::Text;
 #[derive(Debug, Drop)]
 pub struct Node {
     pub name: Text,
-    /// Invert elevation, greatest depth and initial depth, in µm.
+    /// Invert elevation (within 10^10), greatest depth and initial depth (0 to 10^9), in µm.
     pub invert: i64,
     pub y_max: i64,
     pub y0: i64,
@@ -15,13 +15,14 @@ pub struct Node {
 /// What a node is.
 #[derive(Clone, Copy, Debug, PartialEq, Eq)]
 pub enum NodeKind {
-    /// `surcharge` in µm above the full depth, `pond` the ponded area in mm².
+    /// `surcharge` in µm above the full depth, 0 to 10^9; `pond` the ponded area in mm², 0 to 10^13.
     Junction { surcharge: i64, pond: i64 },
     Outfall { stage: Stage, gated: bool },
     Storage { shape: StoreShape },
 }
 
-/// The boundary condition of an outfall. A fixed stage is an elevation in µm; curve and series go by their numbers.
+/// The boundary condition of an outfall. A fixed stage is an elevation in µm, within 10^10; a tidal curve and a series
+/// go by their numbers.
 #[derive(Clone, Copy, Debug, PartialEq, Eq)]
 pub enum Stage {
     Free,
@@ -31,8 +32,8 @@ pub enum Stage {
     Series(u32),
 }
 
-/// The surface area of a storage by its depth: a curve by its number, or `a1 * depth^(halves/2) + a0` with
-/// coefficients in millionths of the user's units.
+/// The surface area of a storage by its depth: a storage curve by its number, or `a1 * depth^(halves/2) + a0` with
+/// coefficients in millionths of the user's units, 0 to 10^15, and at most 6 halves.
 #[derive(Clone, Copy, Debug, PartialEq, Eq)]
 pub enum StoreShape {
     Tabular(u32),
@@ -53,7 +54,8 @@ pub struct Link {
 /// What a link is.
 #[derive(Clone, Copy, Debug, PartialEq, Eq)]
 pub enum LinkKind {
-    /// Length and offsets in µm, flows in cm³/s; a greatest flow of 0 is none.
+    /// Length (10^4 to 10^11) and offsets (0 to 10^9) in µm; roughness 1,000 to 10^6 millionths; flows in cm³/s, within
+    /// 10^12, where a greatest flow of 0 is none; loss coefficients 0 to 10^8 millionths.
     Conduit {
         length: i64,
         n6: i64,
@@ -66,19 +68,21 @@ pub enum LinkKind {
         avg6: i64,
         flap: bool,
     },
-    /// The curve by its number; the depths for start and stop in µm, 0 for none.
+    /// A pump curve by its number; the depths for start and stop in µm, 0 to 10^9, 0 for none.
     Pump {
         curve: u32,
         on: bool,
         startup: i64,
         shutoff: i64,
     },
+    /// The offset in µm, 0 to 10^9; the discharge coefficient 0 to 10^8 millionths.
     Orifice {
         bottom: bool,
         offset: i64,
         cd6: i64,
         flap: bool,
     },
+    /// The crest's offset in µm, 0 to 10^9; the metric discharge coefficient 0 to 10^8 millionths; 0 to 2 end contractions.
     Weir {
         notch: bool,
         crest: i64,
@@ -88,7 +92,7 @@ pub enum LinkKind {
     },
 }
 
-/// A cross-section: its shape, its full height in µm and the number of barrels.
+/// A cross-section: its shape, its full height in µm, 1,000 to 10^9, and the number of barrels, 1 to 100.
 #[derive(Clone, Copy, Debug, PartialEq, Eq)]
 pub struct Section {
     pub shape: Shape,
@@ -96,7 +100,7 @@ pub struct Section {
     pub barrels: i64,
 }
 
-/// The shape of a cross-section. Widths in µm; side slopes in millionths (run for rise).
+/// The shape of a cross-section. Widths in µm, 0 to 10^10; side slopes in millionths (run for rise), 0 to 10^8.
 #[derive(Clone, Copy, Debug, PartialEq, Eq)]
 pub enum Shape {
     RectOpen {

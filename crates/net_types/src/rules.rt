@@ -9,7 +9,7 @@ pub struct Rule {
     pub groups: List<List<Test>>,
     pub then_acts: List<Action>,
     pub else_acts: List<Action>,
-    /// In millionths; none ranks below all.
+    /// In millionths, within 10^15; none ranks below all.
     pub priority6: Option<i64>,
 }
 
@@ -21,7 +21,8 @@ pub struct Test {
     pub value: i64,
 }
 
-/// What a test looks at. Nodes and links go by their numbers.
+/// What a test looks at: depths and heads in µm, flows in cm³/s, settings in millionths, times in ms, the month from 1 and
+/// the weekday from 1 for Sunday. Nodes and links go by their numbers.
 #[derive(Clone, Copy, Debug, PartialEq, Eq)]
 pub enum Subject {
     NodeDepth(u32),
@@ -46,7 +47,7 @@ pub enum Relation {
     Ge,
 }
 
-/// An action of a rule: the link, by its number, gets this setting, in millionths.
+/// An action of a rule: the link, by its number, gets this setting, 0 to 10^6 millionths.
 #[derive(Clone, Copy, Debug, PartialEq, Eq)]
 pub struct Action {
     pub link: u32,
