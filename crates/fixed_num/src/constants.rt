@@ -9,4 +9,4 @@ pub const GRAVITY: i128 = 9_814_560;
 /// weather flows.
 ///
 /// Source: this project's profile.
-pub const RECORD_LIMIT: usize = 20_000;
+pub const RECORD_LIMIT: u32 = 20_000;

@@ -7,7 +7,8 @@ use Rattle.std.proofs.lemmas.Bool.Decides.{nat_tests}
 use Rattle.inp_lines.specs.declared.line.Line.{Line}
 use Rattle.inp_lines.specs.declared.names.Naming.{Naming}
 use Rattle.inp_lines.specs.declared.names.Naming.TheVariants.{First, OverLimit}
-use Rattle.inp_lines.specs.Names.{is_repeat, record_limit, with_first, firsts_after, firsts, names_of, defined, with_name, naming_of, count_with, count_after, number_in, is_below, naming_by, naming_among}
+use Rattle.inp_lines.specs.Names.{is_repeat, with_first, firsts_after, firsts, names_of, defined, with_name, naming_of, count_with, count_after, number_in, is_below, naming_by, naming_among}
+use Rattle.fixed_num.specs.declared.constants.TheConstants.{RECORD_LIMIT}
 
 -- what passes nowhere in a list is in no front of it
 pub placed_some : {K : Type 0} (p : K → Bool) (from k : ℕ) (xs ys : List K) → position_from p from xs ≡ Some k → position_from p from (xs ++ ys) ≡ Some k
@@ -89,13 +90,13 @@ unknown held name old b same e = sym (placed_any (bytes_eq name) 0 held) ∙ ap 
 -- a name that the list holds, or for which there is no room, adds nothing; another one goes to the end
 pub first_known : (held : List (List ℕ)) (name : List ℕ) → is_repeat held name ≡ true → with_first held name ≡ held
 unfolding with_first
-first_known held name h = ap (λ b. cond (b || nat_le record_limit (length held)) held (held ++ name ∷ [])) h
+first_known held name h = ap (λ b. cond (b || nat_le RECORD_LIMIT (length held)) held (held ++ name ∷ [])) h
 
-pub first_full : (held : List (List ℕ)) (name : List ℕ) → record_limit ≤ length held → with_first held name ≡ held
+pub first_full : (held : List (List ℕ)) (name : List ℕ) → RECORD_LIMIT ≤ length held → with_first held name ≡ held
 unfolding with_first
 first_full held name h = grind (arith, nat_tests)
 
-pub first_new : (held : List (List ℕ)) (name : List ℕ) → is_repeat held name ≡ false → length held < record_limit → with_first held name ≡ held ++ name ∷ []
+pub first_new : (held : List (List ℕ)) (name : List ℕ) → is_repeat held name ≡ false → length held < RECORD_LIMIT → with_first held name ≡ held ++ name ∷ []
 unfolding with_first
 first_new held name e h = grind (arith, nat_tests)
 
@@ -143,7 +144,7 @@ first_grows held name false = (name ∷ [], refl)
 pub firsts_grow : (held xs : List (List ℕ)) → (more : List (List ℕ)) × (firsts_after held xs ≡ held ++ more)
 unfolding firsts_after with_first
 firsts_grow held [] = ([], sym (append-nil held))
-firsts_grow held (x ∷ xs) = let a = first_grows held x (is_repeat held x || nat_le record_limit (length held)) in
+firsts_grow held (x ∷ xs) = let a = first_grows held x (is_repeat held x || nat_le RECORD_LIMIT (length held)) in
     let b = firsts_grow (with_first held x) xs in
     (a.0 ++ b.0, b.1 ∙ (ap (λ l. l ++ b.0) a.1 ∙ append_assoc held a.0 b.0))
 
@@ -156,14 +157,14 @@ defined_split name_of before rest = let a = firsts_grow (defined name_of before)
 pub count_is : (held : List (List ℕ)) (name : Option (List ℕ)) (count : ℕ) → length held ≡ count → length (with_name held name) ≡ count_after name (naming_of held name) count
 count_is held None count h = h
 count_is held (Some name) count h = known (is_repeat held name) refl where
-  full : (b : Bool) → nat_le record_limit (length held) ≡ b → is_repeat held name ≡ false → length (with_first held name) ≡ count_with (cond b OverLimit First) count
-  full true k e = let limit : record_limit ≤ length held = grind (arith, nat_tests) in ap length (first_full held name limit) ∙ h
-  full false k e = let room : length held < record_limit = grind (arith, nat_tests) in
+  full : (b : Bool) → nat_le RECORD_LIMIT (length held) ≡ b → is_repeat held name ≡ false → length (with_first held name) ≡ count_with (cond b OverLimit First) count
+  full true k e = let limit : RECORD_LIMIT ≤ length held = grind (arith, nat_tests) in ap length (first_full held name limit) ∙ h
+  full false k e = let room : length held < RECORD_LIMIT = grind (arith, nat_tests) in
       ap length (first_new held name e room) ∙ (length-append held (name ∷ []) ∙ grind (arith, nat_tests))
 
   known : (b : Bool) → is_repeat held name ≡ b → length (with_first held name) ≡ count_with (naming_by b (length held)) count
   known true e = ap length (first_known held name e) ∙ h
-  known false e = full (nat_le record_limit (length held)) refl e
+  known false e = full (nat_le RECORD_LIMIT (length held)) refl e
 
 -- one line more in a loop over lines
 pub defined_next : (name_of : Line → Option (List ℕ)) (lines : List Line) (i : ℕ) (line : Line) → i < length lines → line ≡ get_or lines i line → defined name_of (take (i + 1) lines) ≡ with_name (defined name_of (take i lines)) (name_of line)

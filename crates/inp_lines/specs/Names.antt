@@ -1,12 +1,9 @@
 use Rattle.std.specs.Prelude.{ℕ, Bool, List, [], ◌∷◌, ◌++◌, ◌||◌, cond, nat_le, nat_lt, ◌+◌, false, length, bytes_eq, Option, option_to_list, flat_map, Some, None}
 use Rattle.std.specs.List.{list_any, position_from}
+use Rattle.fixed_num.specs.declared.constants.TheConstants.{RECORD_LIMIT}
 use Rattle.inp_lines.specs.declared.line.Line.{Line}
 use Rattle.inp_lines.specs.declared.names.Naming.{Naming}
 use Rattle.inp_lines.specs.declared.names.Naming.TheVariants as naming
-
--- The most records of a kind. Source: this project's profile.
-abbrev pub record_limit : ℕ
-record_limit = 20000
 
 -- Whether a name is among the names defined so far. Source: this project's profile.
 abbrev pub is_repeat : List (List ℕ) → List ℕ → Bool
@@ -15,7 +12,7 @@ is_repeat held name = list_any (bytes_eq name) held
 -- The names defined after one more: a repeated name adds nothing, nor does a name past the limit.
 -- Source: this project's profile.
 unfoldable pub with_first : List (List ℕ) → List ℕ → List (List ℕ)
-with_first held name = cond (is_repeat held name || nat_le record_limit (length held)) held (held ++ name ∷ [])
+with_first held name = cond (is_repeat held name || nat_le RECORD_LIMIT (length held)) held (held ++ name ∷ [])
 
 -- The names defined after a line that may give a name. Source: this project's profile.
 abbrev pub with_name : List (List ℕ) → Option (List ℕ) → List (List ℕ)
@@ -45,7 +42,7 @@ number_in names name = position_from (bytes_eq name) 0 names
 
 -- How a name stands: known, or new where there are `count` names. Source: this project's profile.
 abbrev pub naming_by : Bool → ℕ → Naming
-naming_by known count = cond known naming.Repeated (cond (nat_le record_limit count) naming.OverLimit naming.First)
+naming_by known count = cond known naming.Repeated (cond (nat_le RECORD_LIMIT count) naming.OverLimit naming.First)
 
 -- How a name stands to the names defined so far. Source: this project's profile.
 abbrev pub naming_among : List (List ℕ) → List ℕ → Naming
@@ -64,7 +61,7 @@ is_below (Some number) bound = nat_lt number bound
 
 -- The count of names after a line that may give a name, by how the name stands. Source: this project's profile.
 abbrev pub count_with : Naming → ℕ → ℕ
-count_with naming.First count = cond (nat_lt count record_limit) (count + 1) count
+count_with naming.First count = cond (nat_lt count RECORD_LIMIT) (count + 1) count
 count_with naming.Repeated count = count
 count_with naming.OverLimit count = count
 

@@ -12,6 +12,7 @@ use crate::fault::{Fault, add_fault};
 use crate::line::Line;
 use crate::names::{Names, Naming, add_first, naming_at, no_names};
 use crate::reading::Reading;
+use fixed_num::RECORD_LIMIT;
 use net_types::{LineFault, List, OutOfMemory};
 use std::alloc::Global;
 
@@ -131,7 +132,7 @@ fn count_one(naming: Naming, count: u32) -> u32
     ensures { result ≡ count_with naming count }
 {
     match naming {
-        Naming::First if count < 20_000 => count + 1,
+        Naming::First if count < RECORD_LIMIT => count + 1,
         _ => count,
     }
 }

@@ -3,6 +3,7 @@ ghost use Rattle.std.specs.Prelude.{◌≡◌, ◌++◌, [], ℕ, List as Sequen
 ghost use Rattle.inp_lines.specs.Names.{number_in, with_first, naming_among, naming_by, is_below};
 ghost use Rattle.inp_lines.specs.Numbers.{numbers_of};
 
+use fixed_num::RECORD_LIMIT;
 use net_types::OutOfMemory;
 use std::alloc::Global;
 use std::collections::BTreeMap;
@@ -42,7 +43,7 @@ pub fn add_first<'a>(names: &mut Names<'a>, name: &'a [u8], count: u32) -> Resul
     if names.contains_key(&name) {
         return Ok(count);
     }
-    if count >= 20_000 {
+    if count >= RECORD_LIMIT {
         return Ok(count);
     }
     names.insert(name, count)?;
@@ -66,7 +67,7 @@ fn naming_with(known: bool, count: u32) -> Naming
     if known {
         return Naming::Repeated;
     }
-    if count >= 20_000 {
+    if count >= RECORD_LIMIT {
         return Naming::OverLimit;
     }
     Naming::First

@@ -14,7 +14,7 @@ use Rattle.inp_lines.specs.declared.reading.Reading.TheVariants.{Other}
 use Rattle.inp_lines.specs.Faults.{token_at, too_few_of}
 use Rattle.inp_lines.specs.Gather.{gather, records_in}
 use Rattle.inp_lines.specs.Laws.{Fits}
-use Rattle.inp_lines.specs.Names.{record_limit}
+use Rattle.fixed_num.specs.declared.constants.TheConstants.{RECORD_LIMIT}
 use Rattle.inp_lines.specs.Readings.{is_long, needed_of, and_then, reading_from}
 use Rattle.inp_lines.proofs.GatherLemmas.{line_push}
 use Rattle.inp_objects.specs.Inflows.{counts_as_inflow, count_after_line, inflow_at, inflow_of, inflow_form_of, inflow_reading, is_full, room_of}
@@ -103,6 +103,6 @@ few_more units nodes before (line ∷ lines) =
     (few_step (length given) (length rest) n line (is_full before) (counts_as_inflow line) refl (given_room units nodes (is_full before) line) next)
 
 -- lines give at most as many inflows as may be
-pub few_inflows : (units : FlowUnits) (lines : List Line) → length (inflows_of units lines) ≤ record_limit
+pub few_inflows : (units : FlowUnits) (lines : List Line) → length (inflows_of units lines) ≤ RECORD_LIMIT
 unfolding inflows_of
 few_inflows units lines = let few = few_more units (node_number lines) [] lines in omega (arith, few)

@@ -13,7 +13,7 @@ use Rattle.inp_lines.specs.declared.reading.Reading.{Reading}
 use Rattle.inp_lines.specs.declared.reading.Reading.TheVariants.{Other}
 use Rattle.inp_lines.specs.Faults.{token_at, too_few_of}
 use Rattle.inp_lines.specs.Gather.{records_in, faults_in}
-use Rattle.inp_lines.specs.Names.{record_limit}
+use Rattle.fixed_num.specs.declared.constants.TheConstants.{RECORD_LIMIT}
 use Rattle.inp_lines.specs.Readings.{is_long, needed_of, and_then, reading_from}
 use Rattle.inp_objects.specs.Items.{fault_of, number_or, word_at, no_more_of}
 use Rattle.inp_objects.specs.Objects.{by_inflow_section, is_inflow_line}
@@ -76,11 +76,11 @@ counts_as_inflow line = is_inflow_line line && not (nat_lt (length line.tokens) 
 
 -- Whether lines have as many inflows as may be. Source: this project's profile.
 abbrev pub is_full : List Line → Bool
-is_full lines = nat_le record_limit (length (filter counts_as_inflow lines))
+is_full lines = nat_le RECORD_LIMIT (length (filter counts_as_inflow lines))
 
 -- The count of inflows after a line, which ends at the greatest count of records. Source: this project's profile.
 abbrev pub count_after_line : Line → ℕ → ℕ
-count_after_line line count = cond (counts_as_inflow line) (min record_limit (count + 1)) count
+count_after_line line count = cond (counts_as_inflow line) (min RECORD_LIMIT (count + 1)) count
 
 -- The inflow of a line and its fault, each none or one, by the lines before it. Source: this project's profile.
 abbrev pub inflow_at : FlowUnits → (List ℕ → Option ℕ) → List Line → Line → List Inflow

@@ -9,6 +9,7 @@ ghost use Rattle.inp_objects.specs.Objects.{node_names};
 ghost use Rattle.inp_objects.specs.Records.{inflows_of, inflow_fault};
 
 use crate::items::{fault, item, no_more, number_or, word_at};
+use fixed_num::RECORD_LIMIT;
 use fixed_num::scaled_decimal;
 use inp_lines::{
     Fault, Line, Names, Reading, SectionName, add_fault, is_too_long, needed, number_of,
@@ -33,7 +34,7 @@ pub(crate) fn read_inflows<'a>(
     let mut found = List::new(alloc);
     let mut count = 0u32;
     for line in lines.as_slice() {
-        let reading = read_line(units, nodes, count >= 20_000, line);
+        let reading = read_line(units, nodes, count >= RECORD_LIMIT, line);
         keep(alloc, line, reading, inflows, &mut found)?;
         count = count_line(line, count);
     }
@@ -90,11 +91,11 @@ fn keep(
 
 /// The count of inflows after a line, which stays at the greatest count of records.
 fn count_line(line: &Line, count: u32) -> u32
-    requires { count ≤ 20000 }
+    requires { count ≤ RECORD_LIMIT }
     ensures { result ≡ count_after_line line.now count }
 {
     if is_counted(line) {
-        (count + 1).min(20_000)
+        (count + 1).min(RECORD_LIMIT)
     } else {
         count
     }

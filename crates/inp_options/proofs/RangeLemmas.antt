@@ -3,8 +3,7 @@ use Rattle.std.proofs.Common.{T, ℤ, FitsSigned, to_z, of_z}
 use Rattle.std.specs.Prelude.{int_le}
 use Rattle.std.proofs.lemmas.Int.{to_z-of_z}
 use Rattle.std.specs.Int.{w64}
-use Rattle.fixed_num.specs.Ranges.{IsBetween}
-use Rattle.inp_values.specs.Clock.{IsEven}
+use Rattle.fixed_num.specs.Ranges.{IsBetween, IsEven}
 use Rattle.fixed_num.proofs.Between.{between_number, between_up}
 
 -- a number that fits is itself

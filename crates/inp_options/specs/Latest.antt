@@ -1,7 +1,7 @@
 -- The ranges of what the last lines set.
 use Rattle.std.specs.Prelude.{IfSome}
 use Rattle.inp_options.specs.declared.chosen.Latest.{Latest}
-use Rattle.inp_values.specs.Clock.{IsEven}
+use Rattle.fixed_num.specs.Ranges.{IsEven}
 use Rattle.inp_options.specs.Ranges.{IsDay, IsTime, IsReportStep, IsWetStep, IsRoutingStep, IsMinArea, IsTolerance, IsTrials}
 
 -- each value that is set lies in its range; times of the day and the routing step are even numbers of ms

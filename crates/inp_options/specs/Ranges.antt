@@ -1,10 +1,8 @@
 -- The ranges of what options set (User's Manual, section [OPTIONS]).
-use Rattle.std.specs.Prelude.{◌≡◌, ℕ, ◌≤◌, ◌^◌, ⊤, ℤ, pos, neg_ℤ, false}
-use Rattle.net_types.specs.declared.options.Options.{Options}
-use Rattle.fixed_num.specs.Ranges.{IsBetween}
+use Rattle.std.specs.Prelude.{ℕ, ◌≤◌, ◌^◌, ⊤, ℤ, pos, neg_ℤ}
+use Rattle.fixed_num.specs.Ranges.{IsBetween, IsEven}
 use Rattle.inp_lines.specs.declared.reading.Reading.{Reading}
 use Rattle.inp_lines.specs.declared.reading.Reading.TheVariants.{Other, Record, Faulty}
-use Rattle.inp_values.specs.Clock.{IsEven}
 use Rattle.inp_options.specs.declared.setting.Setting.{Setting}
 use Rattle.inp_options.specs.declared.setting.Setting.TheVariants as setting
 
@@ -55,19 +53,3 @@ abbrev pub IsReading : Reading Setting → Type 0
 IsReading Other = ⊤
 IsReading (Record setting) = IsInRange setting
 IsReading (Faulty fault) = ⊤
-
--- the options of a run lie in their ranges; start and end are moments of the years 1900 to 2200; both and the routing
--- step are even numbers of ms; ponding isn't built
-pub record AreInRange (options : Options) : Type 0 where
-  pub start_in : IsBetween (neg_ℤ (pos 2_208_988_800_000)) options.start (pos 7_289_654_399_999)
-  pub start_even : IsEven options.start
-  pub finish_in : IsBetween (neg_ℤ (pos 2_208_988_800_000)) options.finish (pos 7_289_654_399_999)
-  pub finish_even : IsEven options.finish
-  pub report_in : IsReportStep options.report_ms
-  pub wet_in : IsWetStep options.wet_ms
-  pub step_in : IsRoutingStep options.step_ms
-  pub step_even : IsEven options.step_ms
-  pub area_in : IsMinArea options.min_area
-  pub tolerance_in : IsTolerance options.tolerance
-  pub trials_in : IsTrials options.max_trials
-  pub no_ponding : options.ponding ≡ false

@@ -1,15 +1,15 @@
 // The options of a run.
 ghost use Rattle.std.specs.Prelude.{◌≡◌, ℤ, [], IfOk, OnOk, IfSome, unwrap_or};
-ghost use Rattle.fixed_num.specs.Ranges.{IsBetween};
+ghost use Rattle.fixed_num.specs.Ranges.{IsBetween, IsEven};
 ghost use Rattle.inp_lines.specs.Faults.{cut};
 ghost use Rattle.inp_lines.specs.Gather.{gather};
 ghost use Rattle.inp_lines.specs.Merge.{merged};
 ghost use Rattle.inp_options.specs.Latest.{AreLatest};
 ghost use Rattle.inp_options.specs.OptionLines.{option_fault};
 ghost use Rattle.inp_options.specs.Options.{options_by, options_of, units_of};
-ghost use Rattle.inp_options.specs.Ranges.{AreInRange, IsTrials};
+ghost use Rattle.inp_options.specs.Ranges.{IsTrials};
 ghost use Rattle.inp_options.specs.Warnings.{warnings_of};
-ghost use Rattle.inp_values.specs.Clock.{IsEven};
+ghost use Rattle.net_types.specs.Ranges.{OptionsInRange};
 
 use crate::chosen::{Latest, latest_in};
 use crate::times::moment;
@@ -35,7 +35,7 @@ pub fn read_options(
     ensures faults { OnOk result (faults.new ≡ cut (merged faults.old (cut (gather (option_fault (units_of lines.now)) [] lines.now)))) }
 
     // For those who compute with them.
-    ensures range { IfOk result (λ read. AreInRange read.0) }
+    ensures range { IfOk result (λ read. OptionsInRange read.0) }
 {
     let units = units_in(lines.as_slice());
     let latest = latest_in(units, lines.as_slice());
@@ -59,7 +59,7 @@ fn units_in(lines: &[Line]) -> FlowUnits
 fn options_by(units: FlowUnits, latest: &Latest) -> Options
     requires { AreLatest latest.now }
     ensures value { result ≡ options_by units latest.now }
-    ensures range { AreInRange result }
+    ensures range { OptionsInRange result }
 {
     let first_day = within_or(latest.start_date, 11_688);
     Options {
@@ -73,6 +73,7 @@ fn options_by(units: FlowUnits, latest: &Latest) -> Options
         report_ms: within_or(latest.report_ms, 900_000),
         wet_ms: within_or(latest.wet_ms, 300_000),
         step_ms: within_or(latest.step_ms, 20_000),
+        variable6: 0,
         ponding: false,
         damping: latest.damping.unwrap_or(Damping::Partial),
         limiter: latest.limiter.unwrap_or(Limiter::Both),

@@ -1,10 +1,10 @@
 // The values of dates and times.
 ghost use Rattle.std.specs.Prelude.{◌≡◌, pos, neg_ℤ, IfOk};
-ghost use Rattle.fixed_num.specs.Ranges.{IsBetween};
+ghost use Rattle.fixed_num.specs.Ranges.{IsBetween, IsEven};
 ghost use Rattle.inp_lines.specs.Readings.{needed_of};
 ghost use Rattle.inp_options.specs.Values.{moment_of, within};
 ghost use Rattle.inp_values.specs.CalendarDate.{date_of};
-ghost use Rattle.inp_values.specs.Clock.{IsEven, clock_of, time_of_day_of};
+ghost use Rattle.inp_values.specs.Clock.{clock_of, time_of_day_of};
 ghost use Rattle.inp_values.specs.Duration.{seconds_of};
 
 use crate::values::in_range;

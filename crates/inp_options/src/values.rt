@@ -1,11 +1,10 @@
 // The values of numbers and switches.
 ghost use Rattle.std.specs.Prelude.{◌≡◌, ◌^◌, pos, IfOk, IfSome};
 ghost use Rattle.fixed_num.specs.Decimal.{scaled_of};
-ghost use Rattle.fixed_num.specs.Ranges.{IsBetween};
+ghost use Rattle.fixed_num.specs.Ranges.{IsBetween, IsEven};
 ghost use Rattle.inp_lines.specs.Readings.{needed_of};
 ghost use Rattle.inp_options.specs.Ranges.{IsTrials};
 ghost use Rattle.inp_options.specs.Values.{area_of, built_of, is_zero, off_of, tolerance_of, trials_of, within, zero_as};
-ghost use Rattle.inp_values.specs.Clock.{IsEven};
 ghost use Rattle.inp_values.specs.Field.{whole_of};
 ghost use Rattle.inp_values.specs.Units.{unit_for};
 

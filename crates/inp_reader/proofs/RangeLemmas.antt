@@ -1,5 +1,5 @@
 -- The ranges of values that were read.
-use Rattle.std.proofs.Common.{◌≡◌, ◌∷◌, [], ◌<◌, ◌≤◌, ◌^◌, ℕ, ℤ, pos, true, false, Bool, nat_lt, length, List, Option, Some, None, option_to_list, refl, ap, sym, ◌∙◌, subst, arith}
+use Rattle.std.proofs.Common.{◌≡◌, ◌∷◌, [], ◌<◌, ◌≤◌, ◌^◌, ℕ, ℤ, pos, true, false, Bool, nat_lt, length, List, Option, Some, None, IfSome, option_to_list, refl, ap, sym, ◌∙◌, subst, arith}
 use Rattle.std.specs.List.{All, AllZip}
 use Rattle.std.proofs.lemmas.Bool.Decides.{nat_tests}
 use Rattle.std.proofs.lemmas.Int.{ints}
@@ -10,7 +10,12 @@ use Rattle.net_types.specs.declared.network.Node.{Node}
 use Rattle.net_types.specs.declared.network.Section.{Section}
 use Rattle.net_types.specs.declared.options.FlowUnits.{FlowUnits}
 use Rattle.fixed_num.specs.Decimal.{IsStored}
-use Rattle.fixed_num.specs.Ranges.{IsBetween}
+use Rattle.fixed_num.specs.Ranges.{AreBarrels, IsCoefficient, IsConduitLength, IsDepth, IsElevation, IsFlow, IsFlowLimit, IsNodeArea, IsRaw, IsRoughness, IsWidth}
+use Rattle.fixed_num.proofs.Bounds.{within_both, within_minus, within_number}
+use Rattle.net_types.specs.declared.network.LinkKind.{LinkKind}
+use Rattle.net_types.specs.Ranges.{NodeKindInRange, NodeInRange, ShapeInRange, SectionInRange, LinkKindInRange, LinkInRange, InflowInRange}
+use Rattle.net_types.specs.Sound.{NodeKindNames, NodeNames, LinkKindNames, LinkNames, InflowNames}
+use Rattle.net_types.specs.declared.project.Project.{Project}
 use Rattle.inp_lines.specs.declared.line.Line.{Line}
 use Rattle.inp_lines.specs.declared.line.SectionName.{SectionName}
 use Rattle.inp_lines.specs.declared.line.SectionName.TheVariants as section
@@ -19,13 +24,12 @@ use Rattle.inp_values.specs.declared.quantities.Quantity.TheVariants as quantity
 use Rattle.inp_values.specs.Units.{unit_for}
 use Rattle.inp_objects.specs.Meaning.{IsNumber, IsNumberOr, IsJunction, IsOutfall, AsNode, IsNode, IsConduit, IsInflow}
 use Rattle.inp_tables.specs.SectionMeaning.{IsSection, HasSection}
-use Rattle.inp_reader.specs.Soundness.{IsElevation, IsDepth, IsWidth, IsRaw, NodeKindInRange, NodeInRange, ShapeInRange, SectionInRange, NoneOrInRange, LinkKindInRange, LinkInRange, InflowInRange}
 
 -- the ends of the ranges, which the units of measure have no part in
 module _ (units : FlowUnits) (text : List ℕ) (value : ℤ) where
   elevation_in : IsStored (unit_for units quantity.Elevation) text value → IsElevation value
   unfolding unit_for
-  elevation_in stored = stored.range
+  elevation_in stored = within_both stored.range (within_minus (10 ^ 10)) (within_number (10 ^ 10))
 
   depth_in : IsStored (unit_for units quantity.Depth) text value → IsDepth value
   unfolding unit_for
@@ -35,21 +39,21 @@ module _ (units : FlowUnits) (text : List ℕ) (value : ℤ) where
   unfolding unit_for
   width_in stored = stored.range
 
-  area_in : IsStored (unit_for units quantity.NodeArea) text value → IsBetween (pos 0) value (pos (10 ^ 13))
+  area_in : IsStored (unit_for units quantity.NodeArea) text value → IsNodeArea value
   unfolding unit_for
   area_in stored = stored.range
 
-  length_in : IsStored (unit_for units quantity.ConduitLength) text value → IsBetween (pos 10_000) value (pos (10 ^ 11))
+  length_in : IsStored (unit_for units quantity.ConduitLength) text value → IsConduitLength value
   unfolding unit_for
   length_in stored = stored.range
 
-  roughness_in : IsStored (unit_for units quantity.Roughness) text value → IsBetween (pos 1_000) value (pos (10 ^ 6))
+  roughness_in : IsStored (unit_for units quantity.Roughness) text value → IsRoughness value
   unfolding unit_for
   roughness_in stored = stored.range
 
   raw_in : IsStored (unit_for units quantity.Raw) text value → IsRaw value
   unfolding unit_for
-  raw_in stored = stored.range
+  raw_in stored = within_both stored.range (within_minus (10 ^ 15)) (within_number (10 ^ 15))
 
 -- an item that may be missing
 or_in : (P : ℤ → Type 0) (missing : ℤ) (units : FlowUnits) (kind : Quantity) (tokens : List (List ℕ)) (place : ℕ) (value : ℤ)
@@ -62,26 +66,28 @@ or_in P missing units kind tokens place value default given item = step (nat_lt 
 zero_depth : IsDepth (pos 0)
 zero_depth = record { from = omega (arith, ints); to = omega (arith, ints) }
 
-zero_area : IsBetween (pos 0) (pos 0) (pos (10 ^ 13))
+zero_area : IsNodeArea (pos 0)
 zero_area = record { from = omega (arith, ints); to = omega (arith, ints) }
 
 zero_raw : IsRaw (pos 0)
-zero_raw = record { from = omega (arith, ints); to = omega (arith, ints) }
+zero_raw = record { within = omega (arith, ints) }
 
 one_raw : IsRaw (pos 1_000_000)
-one_raw = record { from = omega (arith, ints); to = omega (arith, ints) }
+one_raw = record { within = omega (arith, ints) }
 
 depth_or : (units : FlowUnits) (tokens : List (List ℕ)) (place : ℕ) (value : ℤ) → IsNumberOr (pos 0) units quantity.Depth tokens place value → IsDepth value
 depth_or units tokens place value item = or_in IsDepth (pos 0) units quantity.Depth tokens place value zero_depth (depth_in units _ value) item
 
 junction_in : (units : FlowUnits) (tokens : List (List ℕ)) (node : Node) → IsJunction units tokens node → NodeInRange node
 junction_in units tokens node is =
-    let area : ℤ → Type 0 = λ value. IsBetween (pos 0) value (pos (10 ^ 13)) in
     record {
       invert_in = elevation_in units _ node.invert is.invert_is;
       y_max_in = depth_or units tokens 2 node.y_max is.y_max_is;
       y0_in = depth_or units tokens 3 node.y0 is.y0_is;
-      kind_in = subst NodeKindInRange (sym is.kind_is) (depth_or units tokens 4 is.surcharge is.surcharge_is, or_in area (pos 0) units quantity.NodeArea tokens 5 is.pond zero_area (area_in units _ is.pond) is.pond_is);
+      kind_in = subst NodeKindInRange (sym is.kind_is) (record {
+        surcharge_in = depth_or units tokens 4 is.surcharge is.surcharge_is;
+        pond_in = or_in IsNodeArea (pos 0) units quantity.NodeArea tokens 5 is.pond zero_area (area_in units _ is.pond) is.pond_is;
+      });
     }
 
 outfall_in : (units : FlowUnits) (tokens : List (List ℕ)) (node : Node) → IsOutfall units tokens node → NodeInRange node
@@ -89,7 +95,7 @@ outfall_in units tokens node is = record {
   invert_in = elevation_in units _ node.invert is.invert_is;
   y_max_in = subst IsDepth (sym is.y_max_is) zero_depth;
   y0_in = subst IsDepth (sym is.y0_is) zero_depth;
-  kind_in = subst NodeKindInRange (sym is.kind_is) (elevation_in units _ is.stage is.stage_is, is.gate_is.built);
+  kind_in = subst NodeKindInRange (sym is.kind_is) (elevation_in units _ is.stage is.stage_is);
 }
 
 pub node_in : (units : FlowUnits) (line : Line) (node : Node) → IsNode units line node → NodeInRange node
@@ -99,54 +105,112 @@ node_in units line node is = at line.«section» is where
   at section.Outfalls o = outfall_in units line.tokens node o
   at _ n = absurd n
 
-pub conduit_in : (units : FlowUnits) (nodes : List ℕ → Option ℕ) (tokens : List (List ℕ)) (link : Link) → IsConduit units nodes tokens link → LinkKindInRange link.kind
+-- these nodes name no other object
+module _ (project : Project) where
+  junction_names : (units : FlowUnits) (tokens : List (List ℕ)) (node : Node) → IsJunction units tokens node → NodeNames project node
+  junction_names units tokens node is = record { kind = subst (NodeKindNames project) (sym is.kind_is) tt }
+
+  outfall_names : (units : FlowUnits) (tokens : List (List ℕ)) (node : Node) → IsOutfall units tokens node → NodeNames project node
+  outfall_names units tokens node is = record { kind = subst (NodeKindNames project) (sym is.kind_is) tt }
+
+  pub node_names_in : (units : FlowUnits) (line : Line) (node : Node) → IsNode units line node → NodeNames project node
+  node_names_in units line node is = at line.«section» is where
+    at : (name : SectionName) → AsNode (IsJunction units line.tokens node) (IsOutfall units line.tokens node) name → NodeNames project node
+    at section.Junctions j = junction_names units line.tokens node j
+    at section.Outfalls o = outfall_names units line.tokens node o
+    at _ n = absurd n
+
+zero_flow : IsFlow (pos 0)
+zero_flow = record { within = omega (arith, ints) }
+
+zero_limit : IsFlowLimit (pos 0)
+zero_limit = record { from = omega (arith, ints); to = omega (arith, ints) }
+
+zero_coefficient : IsCoefficient (pos 0)
+zero_coefficient = record { from = omega (arith, ints); to = omega (arith, ints) }
+
+zero_in : (P : ℤ → Type 0) {value : ℤ} → P (pos 0) → value ≡ pos 0 → P value
+zero_in P zero is = subst P (sym is) zero
+
+conduit_in : (units : FlowUnits) (nodes : List ℕ → Option ℕ) (tokens : List (List ℕ)) (link : Link) → IsConduit units nodes tokens link → LinkKindInRange link.kind
 conduit_in units nodes tokens link is = subst LinkKindInRange (sym is.kind_is) (record {
-  length_is_in = length_in units _ is.length_read is.length_is;
-  n6_in = roughness_in units _ is.n6 is.n6_is;
-  z1_is = is.z1_built;
-  z2_is = is.z2_built;
-  q0_is = is.q0_built;
-  q_max_is = is.q_max_built;
-  entry_is = refl;
-  exit_is = refl;
-  avg_is = refl;
-  no_flap = refl;
+  long_in = length_in units _ is.length_read is.length_is;
+  roughness_in = roughness_in units _ is.n6 is.n6_is;
+  z1_in = zero_in IsDepth zero_depth is.z1_built;
+  z2_in = zero_in IsDepth zero_depth is.z2_built;
+  q0_in = zero_in IsFlow zero_flow is.q0_built;
+  q_max_in = zero_in IsFlowLimit zero_limit is.q_max_built;
+  entry_in = zero_coefficient;
+  exit_in = zero_coefficient;
+  avg_in = zero_coefficient;
 })
 
-pub inflow_in : (units : FlowUnits) (nodes : List ℕ → Option ℕ) (count : ℕ) (tokens : List (List ℕ)) (inflow : Inflow) → ((name : List ℕ) (k : ℕ) → nodes name ≡ Some k → k < count) → IsInflow units nodes tokens inflow → InflowInRange count inflow
-inflow_in units nodes count tokens inflow within is = record {
-  node_in = within _ inflow.node is.node_is;
+conduit_names : (project : Project) (units : FlowUnits) (nodes : List ℕ → Option ℕ) (tokens : List (List ℕ)) (link : Link) → IsConduit units nodes tokens link → LinkKindNames project link.kind
+conduit_names project units nodes tokens link is = subst (LinkKindNames project) (sym is.kind_is) tt
+
+pub inflow_in : (units : FlowUnits) (nodes : List ℕ → Option ℕ) (tokens : List (List ℕ)) (inflow : Inflow) → IsInflow units nodes tokens inflow → InflowInRange inflow
+inflow_in units nodes tokens inflow is = record {
   scale_in = or_in IsRaw (pos 1_000_000) units quantity.Raw tokens 5 inflow.scale6 one_raw (raw_in units _ inflow.scale6) is.scale_is;
   base_in = or_in IsRaw (pos 0) units quantity.Raw tokens 6 inflow.base6 zero_raw (raw_in units _ inflow.base6) is.base_is;
-  no_series = is.series_is;
-  no_pattern = is.pattern_is;
 }
+
+none_is : {A : Type 0} (P : A → Type 0) {o : Option A} → o ≡ None → IfSome o P
+none_is P is = subst (λ o. IfSome o P) (sym is) tt
+
+pub inflow_names : (project : Project) (units : FlowUnits) (nodes : List ℕ → Option ℕ) (tokens : List (List ℕ)) (inflow : Inflow)
+    → ((name : List ℕ) (k : ℕ) → nodes name ≡ Some k → k < length project.nodes) → IsInflow units nodes tokens inflow → InflowNames project inflow
+inflow_names project units nodes tokens inflow within is = record {
+  node = within _ inflow.node is.node_is;
+  series = none_is (λ (k : ℕ). k < length project.series) is.series_is;
+  pattern = none_is (λ (k : ℕ). k < length project.patterns) is.pattern_is;
+}
+
+one_barrel : {barrels : ℤ} → barrels ≡ pos 1 → AreBarrels barrels
+one_barrel is = subst AreBarrels (sym is) (record { from = omega (arith, ints); to = omega (arith, ints) })
 
 section_of_line_in : (units : FlowUnits) (tokens : List (List ℕ)) (meant : Section) → IsSection units tokens meant → SectionInRange meant
 section_of_line_in units tokens meant is = record {
   shape_in = subst ShapeInRange (sym is.shape_is) (width_in units _ is.width is.width_is);
   full_in = record { from = is.high; to = (depth_in units _ meant.full is.full_is).to };
-  one_barrel = is.barrels_are ∙ ap (λ (n : ℕ). pos n) is.count_is.built;
+  barrels_in = one_barrel (is.barrels_are ∙ ap (λ (n : ℕ). pos n) is.count_is.built);
 }
 
-section_in : (units : FlowUnits) (lines : List Line) (found : Option Section) → AllZip (λ line meant. IsSection units line.tokens meant) lines (option_to_list found) → NoneOrInRange found
+section_in : (units : FlowUnits) (lines : List Line) (found : Option Section) → AllZip (λ line meant. IsSection units line.tokens meant) lines (option_to_list found) → IfSome found SectionInRange
 section_in units lines None z = tt
 section_in units [] (Some found) z = absurd z
 section_in units (line ∷ lines) (Some found) z = section_of_line_in units line.tokens found z.0
 
-pub record BareInRange (count : ℕ) (link : Link) : Type 0 where
-  pub first_in : link.first < count
-  pub second_in : link.second < count
+pub record BareInRange (project : Project) (link : Link) : Type 0 where
   pub kind_in : LinkKindInRange link.kind
+  pub first : link.first < length project.nodes
+  pub second : link.second < length project.nodes
+  pub kind : LinkKindNames project link.kind
 
-pub bare_in : (units : FlowUnits) (nodes : List ℕ → Option ℕ) (count : ℕ) (tokens : List (List ℕ)) (link : Link) → ((name : List ℕ) (k : ℕ) → nodes name ≡ Some k → k < count) → IsConduit units nodes tokens link → BareInRange count link
-bare_in units nodes count tokens link within is = record { first_in = within _ link.first is.first_is; second_in = within _ link.second is.second_is; kind_in = conduit_in units nodes tokens link is }
+pub bare_in : (project : Project) (units : FlowUnits) (nodes : List ℕ → Option ℕ) (tokens : List (List ℕ)) (link : Link)
+    → ((name : List ℕ) (k : ℕ) → nodes name ≡ Some k → k < length project.nodes) → IsConduit units nodes tokens link → BareInRange project link
+bare_in project units nodes tokens link within is = record {
+  kind_in = conduit_in units nodes tokens link is;
+  first = within _ link.first is.first_is;
+  second = within _ link.second is.second_is;
+  kind = conduit_names project units nodes tokens link is;
+}
 
-pub link_in : (units : FlowUnits) (lines : List Line) (count : ℕ) (bare link : Link) → BareInRange count bare → HasSection units lines bare link → LinkInRange count link
-link_in units lines count bare link is has =
-    let P : Link → Type 0 = λ x. BareInRange count x in
-    let here : BareInRange count link = subst P (sym has.same) (record { first_in = is.first_in; second_in = is.second_in; kind_in = is.kind_in }) in
-    record { first_in = here.first_in; second_in = here.second_in; kind_in = here.kind_in; section_in = section_in units _ link.«section» has.of_line }
+-- the same of a link with its section
+with_section : (project : Project) (units : FlowUnits) (lines : List Line) (bare link : Link) → BareInRange project bare → HasSection units lines bare link → BareInRange project link
+with_section project units lines bare link is has =
+    let P : Link → Type 0 = λ x. BareInRange project x in
+    subst P (sym has.same) (record { kind_in = is.kind_in; first = is.first; second = is.second; kind = is.kind })
+
+pub link_in : (project : Project) (units : FlowUnits) (lines : List Line) (bare link : Link) → BareInRange project bare → HasSection units lines bare link → LinkInRange link
+link_in project units lines bare link is has = record {
+  kind_in = (with_section project units lines bare link is has).kind_in;
+  section_in = section_in units _ link.«section» has.of_line;
+}
+
+pub link_names : (project : Project) (units : FlowUnits) (lines : List Line) (bare link : Link) → BareInRange project bare → HasSection units lines bare link → LinkNames project link
+link_names project units lines bare link is has =
+    let here = with_section project units lines bare link is has in
+    record { first = here.first; second = here.second; kind = here.kind }
 
 -- a fact of each record, from what the lines mean
 pub all_zipped : {L R : Type 0} (Is : L → R → Type 0) (P : R → Type 0) → ((l : L) (r : R) → Is l r → P r) → (ls : List L) (rs : List R) → AllZip Is ls rs → All P rs

@@ -4,7 +4,7 @@ ghost use Rattle.inp_lines.specs.Faults.{cut};
 ghost use Rattle.inp_lines.specs.Order.{Rise};
 ghost use Rattle.inp_reader.specs.LineFaults.{line_faults};
 ghost use Rattle.inp_reader.specs.Meaning.{Means};
-ghost use Rattle.inp_reader.specs.Soundness.{IsSound};
+ghost use Rattle.net_types.specs.Sound.{IsSound};
 
 use crate::others::read_others;
 use crate::title::read_title;

@@ -6,7 +6,8 @@ ghost use Rattle.inp_lines.specs.Lines.{lines_of};
 ghost use Rattle.inp_reader.specs.LineFaults.{line_faults};
 ghost use Rattle.inp_reader.specs.Meaning.{Means};
 ghost use Rattle.inp_reader.specs.Reading.{ReadsAs};
-ghost use Rattle.inp_reader.specs.Soundness.{AcceptsSound, IsSound};
+ghost use Rattle.inp_reader.specs.Soundness.{AcceptsSound};
+ghost use Rattle.net_types.specs.Sound.{IsSound};
 
 use crate::project::read_lines;
 use inp_lines::split_lines;

@@ -14,7 +14,8 @@ use Rattle.inp_lines.specs.declared.names.Naming.TheVariants.{First, Repeated, O
 use Rattle.inp_lines.specs.declared.reading.Reading.{Reading}
 use Rattle.inp_lines.specs.declared.reading.Reading.TheVariants.{Other, Record, Faulty}
 use Rattle.inp_lines.specs.Gather.{gather, records_in, faults_in, reading_at, record_at, fault_at}
-use Rattle.inp_lines.specs.Names.{is_repeat, record_limit, with_first, with_name, firsts_after, firsts, defined, number_in, naming_of, naming_by, naming_among}
+use Rattle.inp_lines.specs.Names.{is_repeat, with_first, with_name, firsts_after, firsts, defined, number_in, naming_of, naming_by, naming_among}
+use Rattle.fixed_num.specs.declared.constants.TheConstants.{RECORD_LIMIT}
 use Rattle.inp_lines.proofs.NameLemmas.{defined_none, defined_more, first_new}
 
 -- names are compared byte for byte
@@ -42,7 +43,7 @@ bytes_equivalence = record {
 -- the names that are defined differ from one another
 first_distinct : (held : List (List ℕ)) (name : List ℕ) → IsDistinct bytes_eq held → IsDistinct bytes_eq (with_first held name)
 unfolding with_first
-first_distinct held name d = step (is_repeat held name) refl (nat_le record_limit (length held)) where
+first_distinct held name d = step (is_repeat held name) refl (nat_le RECORD_LIMIT (length held)) where
   step : (b : Bool) → is_repeat held name ≡ b → (c : Bool) → IsDistinct bytes_eq (cond (b || c) held (held ++ name ∷ []))
   step true e c = d
   step false e true = d
@@ -104,13 +105,13 @@ Named name_in name standing (Faulty fault) = ⊤
 
 new_there : (held : List (List ℕ)) (name : List ℕ) → naming_among held name ≡ First → with_first held name ≡ held ++ name ∷ []
 new_there held name h = step (is_repeat held name) refl h where
-  room : (b : Bool) → nat_le record_limit (length held) ≡ b → cond b OverLimit First ≡ First → is_repeat held name ≡ false → with_first held name ≡ held ++ name ∷ []
+  room : (b : Bool) → nat_le RECORD_LIMIT (length held) ≡ b → cond b OverLimit First ≡ First → is_repeat held name ≡ false → with_first held name ≡ held ++ name ∷ []
   room true e f g = cc
   room false e f g = first_new held name g (grind (arith, nat_tests))
 
   step : (b : Bool) → is_repeat held name ≡ b → naming_by b (length held) ≡ First → with_first held name ≡ held ++ name ∷ []
   step true e f = cc
-  step false e f = room (nat_le record_limit (length held)) refl f e
+  step false e f = room (nat_le RECORD_LIMIT (length held)) refl f e
 
 name_added : {R : Type 0} (name_in : R → List ℕ) (held : List (List ℕ)) (line : Line) (name : Option (List ℕ)) (reading : Reading R) → Named name_in name (naming_of held name) reading → faults_in line reading ≡ [] → with_name held name ≡ held ++ map name_in (records_in reading)
 name_added name_in held line name Other n h = ap (with_name held) n ∙ sym (append-nil held)

@@ -10,7 +10,8 @@ use Rattle.std.proofs.lemmas.Bool.Decides.{nat_tests}
 use Rattle.std.proofs.lemmas.Int.{ints}
 use Rattle.fixed_num.specs.Number.{past_digits}
 use Rattle.inp_values.specs.Field.{IsField, field_of}
-use Rattle.inp_values.specs.Clock.{IsEven, IsClockEnd, minutes_alone, with_seconds, IsClock, IsTimeOfDay, sixtieths_of, seconds_in, clock_end_of, ms_in, clock_of, below_a_day, time_of_day_of}
+use Rattle.inp_values.specs.Clock.{IsClockEnd, minutes_alone, with_seconds, IsClock, IsTimeOfDay, sixtieths_of, seconds_in, clock_end_of, ms_in, clock_of, below_a_day, time_of_day_of}
+use Rattle.fixed_num.specs.Ranges.{IsEven}
 use Rattle.inp_values.proofs.FieldLemmas.{Stops, chosen, same_some, both_true, field_is, field_told, front_digits, front_past, front_parts}
 
 -- ---- two digits

@@ -4,8 +4,8 @@ use Rattle.std.specs.Option.{IfSome, IfNone, option_or, option_map}
 use Rattle.std.specs.declared.option.Option.{Option}
 use Rattle.std.specs.declared.option.Option.TheVariants.{None, Some}
 use Rattle.fixed_num.specs.Decimal.{IsStored, scaled_of}
-use Rattle.fixed_num.specs.Ranges.{IsBetween}
-use Rattle.inp_values.specs.Clock.{IsClock, IsEven, clock_of}
+use Rattle.fixed_num.specs.Ranges.{IsBetween, IsEven}
+use Rattle.inp_values.specs.Clock.{IsClock, clock_of}
 use Rattle.inp_values.proofs.ClockLemmas.{clock_even}
 use Rattle.inp_values.specs.Duration.{hours_unit, seconds_unit, IsHours, IsSeconds, hours_of, seconds_of}
 

@@ -1,5 +1,5 @@
 -- Clock times `h:mm` and `h:mm:ss` (this project's profile).
-use Rattle.std.specs.Prelude.{◌≡◌, ℕ, ◌+◌, ◌-◌, ◌*◌, ◌%◌, unsigned_abs, ◌<◌, ◌&&◌, ◌==◌, nat_lt, if◌then◌else◌, List, [], ◌∷◌, ◌++◌, ℤ, pos, ◌<ℤ◌, int_lt}
+use Rattle.std.specs.Prelude.{◌≡◌, ℕ, ◌+◌, ◌-◌, ◌*◌, ◌<◌, ◌&&◌, ◌==◌, nat_lt, if◌then◌else◌, List, [], ◌∷◌, ◌++◌, ℤ, pos, ◌<ℤ◌, int_lt}
 use Rattle.std.specs.Char.{is_ascii_digit}
 use Rattle.std.specs.List.{take_while}
 use Rattle.std.specs.declared.option.Option.{Option}
@@ -25,10 +25,6 @@ pub record IsClock (text : List ℕ) (ms : ℤ) : Type 0 where
   pub minutes : m < 60
   pub seconds : s < 60
   pub value : ms ≡ pos ((h * 3600 + m * 60 + s) * 1000)
-
--- an even number, as the ms of each clock are
-abbrev pub IsEven : ℤ → Type 0
-IsEven ms = unsigned_abs ms % 2 ≡ 0
 
 -- The same as a function, part by part.
 -- two digits that write a number below 60

@@ -1,6 +1,6 @@
 ghost use Rattle.std.specs.Prelude.{◌≡◌, ℤ, pos, ◌<◌, ◌^◌, IfSome, IfNone, Some};
-ghost use Rattle.fixed_num.specs.Ranges.{IsBetween};
-ghost use Rattle.inp_values.specs.Clock.{IsClock, IsEven, IsTimeOfDay, below_a_day, clock_end_of, clock_of, ms_in, seconds_in, sixtieths_of, time_of_day_of};
+ghost use Rattle.fixed_num.specs.Ranges.{IsBetween, IsEven};
+ghost use Rattle.inp_values.specs.Clock.{IsClock, IsTimeOfDay, below_a_day, clock_end_of, clock_of, ms_in, seconds_in, sixtieths_of, time_of_day_of};
 
 use crate::wholes::{field, split_digits};
 

@@ -1,7 +1,6 @@
 ghost use Rattle.std.specs.Prelude.{◌≡◌, ℤ, pos, ◌+ℤ◌, ◌*◌, ◌^◌, IfSome, IfNone};
 ghost use Rattle.std.specs.Option.{option_map};
-ghost use Rattle.fixed_num.specs.Ranges.{IsBetween};
-ghost use Rattle.inp_values.specs.Clock.{IsEven};
+ghost use Rattle.fixed_num.specs.Ranges.{IsBetween, IsEven};
 ghost use Rattle.inp_values.specs.Duration.{IsHours, IsSeconds, hours_of, seconds_of};
 
 use crate::clocks::clock;

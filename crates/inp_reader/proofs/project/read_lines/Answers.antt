@@ -9,7 +9,7 @@ use Rattle.inp_options.specs.Options.{units_of}
 use Rattle.inp_objects.specs.Records.{object_fault}
 use Rattle.inp_tables.specs.SectionLines.{section_fault}
 use Rattle.inp_reader.proofs.FaultLemmas.{all_merged}
-use Rattle.inp_options.specs.Ranges.{AreInRange}
+use Rattle.net_types.specs.Ranges.{OptionsInRange}
 use Rattle.inp_reader.proofs.MeaningLemmas.{options_have_units, project_means}
 use Rattle.inp_reader.proofs.SoundLemmas.{project_sound}
 use Rattle.inp_reader.proofs.project.read_lines.Goals as goal
@@ -43,4 +43,4 @@ pub returns-clause-sound : goal.returns-clause-sound
 returns-clause-sound c none =
     let meant = returns-clause-project c none in
     project_sound c.args.lines.now c.read_sections.new.project none
-    (subst (λ (o : Options). AreInRange o) (c.in_ok-options.ensures.options ∙ sym meant.options_are) c.in_ok-options.ensures.range) meant
+    (subst (λ (o : Options). OptionsInRange o) (c.in_ok-options.ensures.options ∙ sym meant.options_are) c.in_ok-options.ensures.range) meant
