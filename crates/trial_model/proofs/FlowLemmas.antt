@@ -4,26 +4,27 @@ use Rattle.std.proofs.lemmas.Int.{ints}
 use Rattle.std.proofs.lemmas.List.FromFn.{fill_by_all, length-map-range_with_len}
 use Rattle.phase_law.specs.Law.{Law}
 use Rattle.phase_law.specs.Laws.{IsLaw}
-use Rattle.phase_law.specs.Ranges.{FlowInRange, ShareInRange}
+use Rattle.fixed_num.specs.Lists.{number, list_of}
+use Rattle.fixed_num.specs.Ranges.{IsFlow}
+use Rattle.phase_law.specs.Ranges.{ShareInRange}
 use Rattle.phase_law.specs.declared.values.Share.{Share}
 use Rattle.trial_model.specs.declared.nets.Nets.{Nets}
-use Rattle.trial_model.specs.Fits.{FlowsFit, number}
+use Rattle.trial_model.specs.Fits.{FlowsFit}
 use Rattle.trial_model.specs.Parts.{in_part, out_part}
-use Rattle.trial_model.specs.Trial.{list_of, inflow_of, outflow_of, SumsOf}
+use Rattle.trial_model.specs.Trial.{inflow_of, outflow_of, SumsOf}
 use Rattle.trial_model.proofs.RangeLemmas.{SharesFit, in_most, out_most, parts_most, listed}
 use Rattle.trial_model.proofs.SumLemmas.{in_parts, out_parts, inflow_same, outflow_same}
 
-no_area : (q : ℤ) → FlowInRange q → ShareInRange (record { q = q; area1 = pos 0; area2 = pos 0 })
+no_area : (q : ℤ) → IsFlow q → ShareInRange (record { q = q; area1 = pos 0; area2 = pos 0; time = pos 0 })
 no_area q h = record {
   flow = h;
-  area1_least = omega (arith, ints);
-  area1_most = omega (arith, ints);
-  area2_least = omega (arith, ints);
-  area2_most = omega (arith, ints);
+  area1 = record { from = omega (arith, ints); to = omega (arith, ints) };
+  area2 = record { from = omega (arith, ints); to = omega (arith, ints) };
+  time = record { from = omega (arith, ints); to = omega (arith, ints) };
 }
 
 abbrev pub flow_share : List ℤ → ℕ → Share
-flow_share flows k = record { q = number flows k; area1 = pos 0; area2 = pos 0 }
+flow_share flows k = record { q = number flows k; area1 = pos 0; area2 = pos 0; time = pos 0 }
 
 pub flow_shares_fit : {law : Law} {flows : List ℤ} → FlowsFit law flows → SharesFit law (flow_share flows)
 flow_shares_fit {law} {flows} fit = record { each = λ k h. no_area (number flows k) (fit.each k h) }
@@ -34,10 +35,10 @@ pub summed : (s : Nets) {i o i2 o2 : List ℤ} → i ≡ i2 → o ≡ o2
 summed s e1 e2 = cc
 
 -- the sums over flows in range
-pub flow_sums_most : {law : Law} → IsLaw law → (flow : ℕ → ℤ) → ((l : ℕ) → l < law.links → FlowInRange (flow l)) → (n : ℕ)
+pub flow_sums_most : {law : Law} → IsLaw law → (flow : ℕ → ℤ) → ((l : ℕ) → l < law.links → IsFlow (flow l)) → (n : ℕ)
     → (inflow_of law flow n ≤ 2 * 10 ^ 16) × (outflow_of law flow n ≤ 2 * 10 ^ 16)
 flow_sums_most {law} good flow range n =
-    let share : ℕ → Share = λ l. record { q = flow l; area1 = pos 0; area2 = pos 0 } in
+    let share : ℕ → Share = λ l. record { q = flow l; area1 = pos 0; area2 = pos 0; time = pos 0 } in
     let fit : SharesFit law share = record { each = λ k h. no_area (flow k) (range k h) } in
     let ins = parts_most (λ k. in_part (law.ends k) (share k)) (10 ^ 12) law.links n good.few_links (in_most good fit) in
     let outs = parts_most (λ k. out_part (law.ends k) (share k)) (10 ^ 12) law.links n good.few_links (out_most good fit) in

@@ -1,11 +1,13 @@
 -- The loops over links and over nodes: what holds after so many of them, and the step to one more.
-use Rattle.std.proofs.Common.{◌≡◌, ℕ, ◌+◌, ◌<◌, ◌≤◌, ℤ, pos, ◌+ℤ◌, List, length, slice_set, refl, ◌∙◌, arith, add-one, inl, inr}
+use Rattle.std.proofs.Common.{◌≡◌, ℕ, ◌+◌, ◌<◌, ◌≤◌, ℤ, pos, ◌+ℤ◌, List, length, slice_set, refl, sym, ap, ◌∙◌, arith, add-one, inl, inr}
 use Rattle.std.proofs.lemmas.List.{get_or-set_same, get_or-set_other}
 use Rattle.std.proofs.Math.Nat.{eq-or-lt_of_le}
-use Rattle.phase_law.specs.Sums.{below}
+use Rattle.std.specs.Int.{int_min}
+use Rattle.fixed_num.specs.Sums.{below, least_below}
+use Rattle.fixed_num.proofs.SignedSums.{least_next}
 use Rattle.phase_law.specs.declared.values.Share.{Share}
 use Rattle.phase_law.specs.declared.values.NodeNext.{NodeNext}
-use Rattle.trial_model.specs.Fits.{number}
+use Rattle.fixed_num.specs.Lists.{number}
 use Rattle.trial_model.specs.Trial.{unsettled_part}
 
 -- the flows of the first links are those of their shares, and the others are the old ones
@@ -62,3 +64,10 @@ heads_more {next} {heads} {unsettled} {node} f head one h e same most = record {
   count = rw (f.count, same, add-one node) refl;
   few = omega (arith, f.few);
 }
+
+-- the least time of one link more
+pub least_more : (f : ℕ → ℤ) (link : ℕ) (most : ℤ) {least time new : ℤ} → least ≡ least_below most f link
+    → new ≡ int_min least time → time ≡ f link → new ≡ least_below most f (link + 1)
+least_more f link most {least} {time} {new} e next same =
+    next ∙ ap (λ (z : ℤ). int_min z time) e ∙ ap (λ (t : ℤ). int_min (least_below most f link) t) same
+    ∙ sym (least_next most f link)

@@ -6,16 +6,19 @@ use Rattle.std.proofs.lemmas.Bool.Decides.{nat_tests}
 use Rattle.std.proofs.lemmas.List.FromFn.{get_or-map-range_with_len, length-map-range_with_len, fill_by_all}
 use Rattle.phase_law.specs.Law.{Law}
 use Rattle.phase_law.specs.Laws.{IsLaw}
-use Rattle.phase_law.specs.Ranges.{FlowInRange, ShareInRange, SumsInRange}
-use Rattle.phase_law.specs.Sums.{below}
+use Rattle.fixed_num.specs.Lists.{number, list_of}
+use Rattle.fixed_num.specs.Ranges.{IsFlow}
+use Rattle.phase_law.specs.Ranges.{ShareInRange, SumsInRange}
+use Rattle.fixed_num.specs.Sums.{below}
 use Rattle.phase_law.specs.declared.values.Share.{Share}
 use Rattle.phase_law.specs.declared.values.LinkFixed.{LinkFixed}
-use Rattle.phase_law.proofs.SumLemmas.{below_most}
+use Rattle.fixed_num.proofs.SignedSums.{least_between}
+use Rattle.fixed_num.proofs.SumLemmas.{below_most}
 use Rattle.trial_model.specs.declared.nets.Nets.{Nets}
-use Rattle.trial_model.specs.Fits.{Fits, HeadsFit, FlowsFit, LinksFit, number}
+use Rattle.trial_model.specs.Fits.{Fits, HeadsFit, FlowsFit, LinksFit}
 use Rattle.trial_model.specs.Flow.{forward, backward}
 use Rattle.trial_model.specs.Parts.{both_ends, in_part, out_part, area_part, HasRoom}
-use Rattle.trial_model.specs.Trial.{list_of, share_of, share_in, inflow_of, outflow_of, area_of, with_flows}
+use Rattle.trial_model.specs.Trial.{share_of, share_in, inflow_of, outflow_of, area_of, with_flows}
 use Rattle.trial_model.proofs.LoopLemmas.{SumsMade}
 use Rattle.trial_model.proofs.SumLemmas.{in_parts, out_parts, area_parts}
 
@@ -24,7 +27,7 @@ pub record SharesFit (law : Law) (share : ℕ → Share) : Type 0 where
   pub each : (k : ℕ) → k < law.links → ShareInRange (share k)
 
 pub share_fine : {law : Law} → IsLaw law → {links : List LinkFixed} → LinksFit law links → {heads : List ℤ} → HeadsFit law heads
-    → (flows : List ℤ) (first : Bool) (l : ℕ) → l < law.links → FlowInRange (number flows l)
+    → (flows : List ℤ) (first : Bool) (l : ℕ) → l < law.links → IsFlow (number flows l)
     → ShareInRange (share_of law links heads flows first l)
 share_fine good links heads flows first l h last =
     let ends = good.ends_in l h in
@@ -35,6 +38,21 @@ pub shares_fit : {law : Law} → IsLaw law → {links : List LinkFixed} → Link
 shares_fit good links heads {flows} fit first = record {
   each = λ k h. share_fine good links heads flows first k h (fit.each k h);
 }
+
+-- the ends of a link are places of lists with an item for each node
+pub first_within : {law : Law} → IsLaw law → (link : ℕ) → link < law.links → {ends : ℕ × ℕ} → ends ≡ law.ends link
+    → (list : List ℤ) → length list ≡ law.nodes → ends.0 < length list
+first_within good link h {ends} e list count =
+    let first = (good.ends_in link h).first in
+    let same = ap (λ (x : ℕ × ℕ). x.0) e in
+    omega (arith, first, same)
+
+pub second_within : {law : Law} → IsLaw law → (link : ℕ) → link < law.links → {ends : ℕ × ℕ} → ends ≡ law.ends link
+    → (list : List ℤ) → length list ≡ law.nodes → ends.1 < length list
+second_within good link h {ends} e list count =
+    let second = (good.ends_in link h).second in
+    let same = ap (λ (x : ℕ × ℕ). x.1) e in
+    omega (arith, second, same)
 
 -- a flow goes one way alone
 pub flow_split : (q : ℤ) → forward q + backward q ≡ unsigned_abs q
@@ -61,8 +79,8 @@ module _ {law : Law} (good : IsLaw law) {share : ℕ → Share} (fit : SharesFit
   pub area_most : (k n : ℕ) → k < law.links → area_part (law.ends k) (share k) n ≤ 5 * 10 ^ 12
   area_most k n h =
       let s = fit.each k h in
-      let first : unsigned_abs (share k).area1 ≤ 5 * 10 ^ 12 = omega (arith, ints, s.area1_least, s.area1_most) in
-      let second : unsigned_abs (share k).area2 ≤ 5 * 10 ^ 12 = omega (arith, ints, s.area2_least, s.area2_most) in
+      let first : unsigned_abs (share k).area1 ≤ 5 * 10 ^ 12 = omega (arith, ints, s.area1.from, s.area1.to) in
+      let second : unsigned_abs (share k).area2 ≤ 5 * 10 ^ 12 = omega (arith, ints, s.area2.from, s.area2.to) in
       both_apart (law.ends k) _ _ n (5 * 10 ^ 12) (good.ends_in k h).differ first second
 
 -- a sum over few links of parts of at most m
@@ -94,7 +112,7 @@ with_flows_fit {law} good {s} fits first =
       heads = fits.heads;
       flows = record {
         count = length-map-range_with_len (λ l. (share l).q) 0 law.links;
-        each = λ l h. subst (λ q. FlowInRange q) (sym (listed (λ l. (share l).q) law.links l (pos 0) h)) (shares.each l h).flow;
+        each = λ l h. subst (λ q. IsFlow q) (sym (listed (λ l. (share l).q) law.links l (pos 0) h)) (shares.each l h).flow;
       };
       sums = record {
         inflow_count = length-map-range_with_len (λ n. pos (inflow_of law (λ l. (share l).q) n)) 0 law.nodes;
@@ -115,17 +133,17 @@ with_flows_fit {law} good {s} fits first =
       read_heads = fits.heads;
       links = fits.links;
       nodes = fits.nodes;
+      least =
+          least_between (pos 0) (pos 3_600_000) (λ l. (share l).time) law.links (omega (arith, ints))
+          (λ l h. (shares.each l h).time.from);
     }
   where
     sums_in : {x y z : ℤ} (inflow outflow area : ℕ) → x ≡ pos inflow → y ≡ pos outflow → z ≡ pos area → inflow ≤ 2 * 10 ^ 16
         → outflow ≤ 2 * 10 ^ 16 → area ≤ 10 ^ 17 → SumsInRange x y z
     sums_in inflow outflow area e1 e2 e3 h1 h2 h3 = record {
-      inflow_least = omega (arith, ints);
-      inflow_most = omega (arith, ints);
-      outflow_least = omega (arith, ints);
-      outflow_most = omega (arith, ints);
-      area_least = omega (arith, ints);
-      area_most = omega (arith, ints);
+      inflow_in = record { from = omega (arith, ints); to = omega (arith, ints) };
+      outflow_in = record { from = omega (arith, ints); to = omega (arith, ints) };
+      area_in = record { from = omega (arith, ints); to = omega (arith, ints) };
     }
 
 -- the sums of all links as a list

@@ -3,9 +3,9 @@ use Rattle.std.proofs.Common.{◌≡◌, ℕ, ◌<◌, ℤ, ap, ◌∙◌, arith
 use Rattle.std.specs.Int.RustNames.{unsigned_abs}
 use Rattle.phase_law.specs.Law.{Law}
 use Rattle.phase_law.specs.Laws.{IsLaw}
-use Rattle.phase_law.specs.Sums.{below, at}
+use Rattle.fixed_num.specs.Sums.{below, at}
 use Rattle.phase_law.specs.declared.values.Share.{Share}
-use Rattle.phase_law.proofs.SumLemmas.{below_same, below_plus, below_swap, at_once}
+use Rattle.fixed_num.proofs.SumLemmas.{below_same, below_plus, below_swap, at_once}
 use Rattle.trial_model.specs.Flow.{forward, backward}
 use Rattle.trial_model.specs.Parts.{in_part, out_part, area_part}
 use Rattle.trial_model.specs.Trial.{over_begins, over_ends, inflow_of, outflow_of, area_of}

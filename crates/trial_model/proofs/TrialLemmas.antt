@@ -7,8 +7,10 @@ use Rattle.phase_law.specs.Law.{Law}
 use Rattle.phase_law.specs.Laws.{IsLaw}
 use Rattle.phase_law.specs.Ranges.{HeadInRange}
 use Rattle.trial_model.specs.declared.nets.Nets.{Nets}
-use Rattle.trial_model.specs.Fits.{Fits, number}
-use Rattle.trial_model.specs.Trial.{list_of, share_in, next_in, inflow_of, outflow_of, area_of, with_flows, trial, unsettled_in, SumsOf}
+use Rattle.fixed_num.specs.Lists.{number, list_of}
+use Rattle.fixed_num.specs.Sums.{least_below}
+use Rattle.trial_model.specs.Fits.{Fits}
+use Rattle.trial_model.specs.Trial.{share_in, next_in, inflow_of, outflow_of, area_of, with_flows, trial, unsettled_in, SumsOf}
 use Rattle.trial_model.specs.RoutingStep.{trials, unsettled_after}
 use Rattle.trial_model.proofs.RangeLemmas.{listed, with_flows_fit}
 use Rattle.trial_model.proofs.SumLemmas.{inflow_same, outflow_same}
@@ -18,15 +20,16 @@ pub written_whole : {A : Type 0} (xs ys : List A) → length ys ≡ length xs �
 written_whole xs ys same = rw (sym same) (take-append_seam ys (drop (length ys) xs))
 
 -- the links' half of a trial, part by part
-pub with_flows_is : (law : Law) (s : Nets) (first : Bool) {f i o a r : List ℤ}
+pub with_flows_is : (law : Law) (s : Nets) (first : Bool) {f i o a r : List ℤ} {m : ℤ}
     → f ≡ list_of (λ l. (share_in law s first l).q) law.links
     → i ≡ list_of (λ n. pos (inflow_of law (λ l. (share_in law s first l).q) n)) law.nodes
     → o ≡ list_of (λ n. pos (outflow_of law (λ l. (share_in law s first l).q) n)) law.nodes
     → a ≡ list_of (λ n. pos (area_of law (share_in law s first) n)) law.nodes
     → r ≡ s.heads
-    → ◌≡◌ {A = Nets} (record s { flows = f; inflows = i; outflows = o; areas = a; read_heads = r }) (with_flows law s first)
+    → m ≡ least_below (pos 3_600_000) (λ l. (share_in law s first l).time) law.links
+    → ◌≡◌ {A = Nets} (record s { flows = f; inflows = i; outflows = o; areas = a; read_heads = r; least = m }) (with_flows law s first)
 unfolding with_flows
-with_flows_is law s first e1 e2 e3 e4 e5 = cc
+with_flows_is law s first e1 e2 e3 e4 e5 e6 = cc
 
 -- a trial leaves a state that fits
 pub trial_fits : {law : Law} → IsLaw law → {s : Nets} → Fits law s → (first : Bool) → Fits law (trial law s first)
@@ -48,6 +51,7 @@ trial_fits {law} good {s} fits first =
       read_heads = f.read_heads;
       links = f.links;
       nodes = f.nodes;
+      least = f.least;
     }
 
 -- whose inflows and outflows are the sums over its own flows

@@ -1,10 +1,10 @@
--- What one link adds at a node: the words of the loop over links.
+-- Words of proofs alone: what one link adds at a node, for the loop over links.
 use Rattle.std.specs.Prelude.{ℕ, ◌+◌, ℤ, pos, ◌≤ℤ◌, List}
 use Rattle.std.specs.Int.RustNames.{unsigned_abs}
-use Rattle.phase_law.specs.Sums.{at}
+use Rattle.fixed_num.specs.Sums.{at}
 use Rattle.phase_law.specs.declared.values.Share.{Share}
 use Rattle.trial_model.specs.Flow.{forward, backward}
-use Rattle.trial_model.specs.Fits.{number}
+use Rattle.fixed_num.specs.Lists.{number}
 
 -- two amounts, one at each end
 abbrev pub both_ends : ℕ × ℕ → ℕ → ℕ → ℕ → ℕ

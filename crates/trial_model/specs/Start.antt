@@ -22,4 +22,5 @@ resting nodes links = record {
   read_heads = replicate nodes (pos 0);
   links = replicate links no_link;
   nodes = replicate nodes no_node;
+  least = pos 0;
 }

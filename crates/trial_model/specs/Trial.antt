@@ -1,20 +1,16 @@
 -- One trial of a routing step (Reference Manual volume II, chapter 3: successive approximations).
-use Rattle.std.specs.Prelude.{◌≡◌, ℕ, ◌+◌, ◌<◌, ℤ, pos, Bool, List, map, if◌then◌else◌}
-use Rattle.std.specs.List.{range_with_len}
+use Rattle.std.specs.Prelude.{◌≡◌, ℕ, ◌+◌, ◌<◌, ◌⊎◌, ℤ, pos, ◌≤ℤ◌, Bool, List, if◌then◌else◌}
 use Rattle.std.specs.Int.RustNames.{unsigned_abs}
+use Rattle.fixed_num.specs.Lists.{number, list_of}
+use Rattle.fixed_num.specs.Sums.{below, at, least_below}
 use Rattle.phase_law.specs.Law.{Law}
-use Rattle.phase_law.specs.Sums.{below, at}
 use Rattle.phase_law.specs.declared.values.LinkFixed.{LinkFixed}
 use Rattle.phase_law.specs.declared.values.NodeFixed.{NodeFixed}
 use Rattle.phase_law.specs.declared.values.NodeNext.{NodeNext}
 use Rattle.phase_law.specs.declared.values.Share.{Share}
 use Rattle.trial_model.specs.declared.nets.Nets.{Nets}
-use Rattle.trial_model.specs.Fits.{number, link_at, node_at}
+use Rattle.trial_model.specs.Fits.{link_fixed_at, node_fixed_at}
 use Rattle.trial_model.specs.Flow.{forward, backward}
-
--- the list f 0, .., f (n - 1)
-abbrev pub list_of : {A : Type 0} → (ℕ → A) → ℕ → List A
-list_of f n = map f (range_with_len 0 n)
 
 -- the sum of f over the links that begin at a node, and over those that end there
 abbrev pub over_begins : Law → (ℕ → ℕ) → ℕ → ℕ
@@ -39,12 +35,12 @@ area_of law share n =
 -- a link's share, from the heads at its ends and its last flow
 abbrev pub share_of : Law → List LinkFixed → List ℤ → List ℤ → Bool → ℕ → Share
 share_of law links heads flows first l =
-    law.share l (link_at links l) first (number heads (law.ends l).0) (number heads (law.ends l).1) (number flows l)
+    law.share l (link_fixed_at links l) first (number heads (law.ends l).0) (number heads (law.ends l).1) (number flows l)
 
 -- a node's next head, from what it gets of its links and its last head
 abbrev pub next_of : Law → List NodeFixed → Bool → List ℤ → List ℤ → List ℤ → List ℤ → ℕ → NodeNext
 next_of law nodes first inflows outflows areas heads n =
-    law.next n (node_at nodes n) first (number inflows n) (number outflows n) (number areas n) (number heads n)
+    law.next n (node_fixed_at nodes n) first (number inflows n) (number outflows n) (number areas n) (number heads n)
 
 -- one for a node that isn't settled
 abbrev pub unsettled_part : Bool → ℕ
@@ -54,7 +50,8 @@ unsettled_part settled = if settled then 0 else 1
 abbrev pub share_in : Law → Nets → Bool → ℕ → Share
 share_in law s first = share_of law s.links s.heads s.flows first
 
--- a trial's links: the flows of their shares, the sums of the shares at each node, and the heads that were read
+-- a trial's links: the flows of their shares, the sums of the shares at each node, the heads that were read, and the
+-- least travel time (ms)
 unfoldable pub with_flows : Law → Nets → Bool → Nets
 with_flows law s first = record s {
   flows = list_of (λ l. (share_in law s first l).q) law.links;
@@ -62,6 +59,7 @@ with_flows law s first = record s {
   outflows = list_of (λ n. pos (outflow_of law (λ l. (share_in law s first l).q) n)) law.nodes;
   areas = list_of (λ n. pos (area_of law (share_in law s first) n)) law.nodes;
   read_heads = s.heads;
+  least = least_below (pos 3_600_000) (λ l. (share_in law s first l).time) law.links;
 }
 
 -- the next head of a node in a trial, from the sums of its links and the head that was read
@@ -84,3 +82,9 @@ unsettled_in law s first =
 pub record SumsOf (law : Law) (s : Nets) : Type 0 where
   pub inflows : (n : ℕ) → n < law.nodes → number s.inflows n ≡ pos (inflow_of law (number s.flows) n)
   pub outflows : (n : ℕ) → n < law.nodes → number s.outflows n ≡ pos (outflow_of law (number s.flows) n)
+
+-- the least of `most` and f 0, .., f (n - 1): none of them is less, and it is one of them
+pub record IsLeast (most : ℤ) (f : ℕ → ℤ) (n : ℕ) (least : ℤ) : Type 0 where
+  pub within : least ≤ℤ most
+  pub each : (k : ℕ) → k < n → least ≤ℤ f k
+  pub one : (least ≡ most) ⊎ ((k : ℕ) × (k < n) × (least ≡ f k))

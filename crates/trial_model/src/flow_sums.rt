@@ -1,10 +1,11 @@
 // The sums of a state's own flows at its nodes.
 ghost use Rattle.std.specs.Prelude.{◌≡◌, ℕ, ◌^◌, ◌<◌, pos, ◌+ℤ◌, length, replicate};
-ghost use Rattle.phase_law.specs.Ranges.{FlowInRange};
-ghost use Rattle.trial_model.specs.Fits.{FlowsFit, number};
+ghost use Rattle.fixed_num.specs.Lists.{number, list_of};
+ghost use Rattle.fixed_num.specs.Ranges.{IsFlow};
+ghost use Rattle.trial_model.specs.Fits.{FlowsFit};
 ghost use Rattle.trial_model.specs.Flow.{forward, backward};
 ghost use Rattle.trial_model.specs.Parts.{both_ends, HasRoom};
-ghost use Rattle.trial_model.specs.Trial.{list_of, inflow_of, outflow_of};
+ghost use Rattle.trial_model.specs.Trial.{inflow_of, outflow_of};
 
 use crate::nets::Nets;
 use crate::sums::{add_pair, clear, split_flow};
@@ -24,7 +25,7 @@ fn add_flow(
     requires far_in { far < length inflows.old }
     requires far_out { far < length outflows.old }
     requires link { link < length flows.now }
-    requires flow { FlowInRange (number flows.now link) }
+    requires flow { IsFlow (number flows.now link) }
     requires inflows { HasRoom inflows.old (10 ^ 18) }
     requires outflows { HasRoom outflows.old (10 ^ 18) }
     ensures inflows { (n : ℕ) → number inflows.new n

@@ -1,8 +1,9 @@
 // The second half of a trial: the next head of every node.
 ghost use Rattle.std.specs.Prelude.{◌≡◌, ℕ, ◌<◌, ◌≤◌, length};
-ghost use Rattle.phase_law.specs.Sums.{below};
+ghost use Rattle.fixed_num.specs.Sums.{below};
 ghost use Rattle.trial_model.specs.Fits.{Fits, HeadsFit, NodesFit, SumsFit};
-ghost use Rattle.trial_model.specs.Trial.{list_of, next_of, next_in, unsettled_part};
+ghost use Rattle.fixed_num.specs.Lists.{list_of};
+ghost use Rattle.trial_model.specs.Trial.{next_of, next_in, unsettled_part};
 
 use crate::nets::Nets;
 use phase_law::{NodeFixed, NodeNext, PhaseLaw};

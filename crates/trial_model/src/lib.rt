@@ -24,4 +24,4 @@ mod trial;
 pub use flow_sums::sum_flows;
 pub use nets::Nets;
 pub use step::{StepEnd, end_is_unique, step_alone, step_has_an_end};
-pub use trial::trial_alone;
+pub use trial::{least_is_one_of_all, trial_alone};

@@ -11,8 +11,8 @@ use std::alloc::Global;
 ///
 /// `heads` (µm), `inflows`, `outflows` (cm³/s) and `areas` (mm²) have an item for each node, `flows`
 /// (cm³/s) one for each link. Inflows, outflows and areas are what the nodes got of their links in the last
-/// trial, and `read_heads` the heads that it read. `links` and `nodes` are what stays the same over the
-/// trials of a step.
+/// trial, `read_heads` the heads that it read, and `least` the least of 3,600,000 and the times of its links
+/// (ms). `links` and `nodes` are what stays the same over the trials of a step.
 #[derive(Debug, Drop)]
 pub struct Nets {
     pub heads: List<i64>,
@@ -23,6 +23,7 @@ pub struct Nets {
     pub read_heads: List<i64>,
     pub links: List<LinkFixed>,
     pub nodes: List<NodeFixed>,
+    pub least: i64,
 }
 
 impl Nets {
@@ -53,6 +54,7 @@ impl Nets {
             read_heads: copies(alloc, 0, nodes)?,
             links: copies(alloc, no_link, links)?,
             nodes: copies(alloc, no_node, nodes)?,
+            least: 0,
         })
     }
 
@@ -69,6 +71,7 @@ impl Nets {
             read_heads: List::new(alloc),
             links: List::new(alloc),
             nodes: List::new(alloc),
+            least: 0,
         }
     }
 }

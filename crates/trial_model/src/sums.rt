@@ -1,8 +1,8 @@
 // The sums of shares at the nodes.
 ghost use Rattle.std.specs.Prelude.{◌≡◌, ℕ, ◌+◌, ◌*◌, ◌^◌, ◌<◌, ◌≤◌, pos, ◌+ℤ◌, length, replicate};
-ghost use Rattle.phase_law.specs.Sums.{at};
+ghost use Rattle.fixed_num.specs.Sums.{at};
 ghost use Rattle.phase_law.specs.Ranges.{ShareInRange};
-ghost use Rattle.trial_model.specs.Fits.{number};
+ghost use Rattle.fixed_num.specs.Lists.{number};
 ghost use Rattle.trial_model.specs.Flow.{forward, backward};
 ghost use Rattle.trial_model.specs.Parts.{both_ends, in_part, out_part, area_part, HasRoom};
 

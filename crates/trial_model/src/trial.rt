@@ -1,6 +1,8 @@
-ghost use Rattle.std.specs.Prelude.{◌≡◌};
+ghost use Rattle.std.specs.Prelude.{◌≡◌, pos, Bool};
+ghost use Rattle.phase_law.specs.Law.{Law};
+ghost use Rattle.trial_model.specs.declared.nets.Nets.{Nets as State};
 ghost use Rattle.trial_model.specs.Fits.{Fits};
-ghost use Rattle.trial_model.specs.Trial.{trial, unsettled_in, SumsOf};
+ghost use Rattle.trial_model.specs.Trial.{trial, unsettled_in, share_in, SumsOf, IsLeast};
 
 use crate::head_phase::head_phase;
 use crate::link_phase::flow_phase;
@@ -26,3 +28,9 @@ pub fn trial_alone<P: PhaseLaw>(law: &P, nets: &mut Nets, first: bool) -> u32
     flow_phase(law, nets, first);
     head_phase(law, nets, first)
 }
+
+/// The least time of a trial is 3,600,000 ms or the time of one of its links, and no link's time is less.
+pub fn least_is_one_of_all()
+    ensures { (law : Law) (s : State) (first : Bool)
+        → IsLeast (pos 3_600_000) (λ l. (share_in law s first l).time) law.links (trial law s first).least }
+{}

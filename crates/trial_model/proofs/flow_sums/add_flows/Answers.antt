@@ -1,7 +1,7 @@
 use Rattle.std.proofs.Common.{◌≡◌, ◌^◌, ◌<◌, length, ap, ◌∙◌, arith}
 use Rattle.std.proofs.lemmas.List.{length-replicate}
 use Rattle.std.specs.Prelude.{pos}
-use Rattle.trial_model.specs.Fits.{number}
+use Rattle.fixed_num.specs.Lists.{number}
 use Rattle.trial_model.specs.Parts.{in_part, out_part}
 use Rattle.trial_model.specs.Trial.{inflow_of, outflow_of}
 use Rattle.trial_model.proofs.FlowLemmas.{flow_share, flow_shares_fit}

@@ -3,13 +3,50 @@ use Rattle.std.proofs.lemmas.Int.{to_z-of_z}
 use Rattle.std.proofs.lemmas.List.{length-replicate}
 use Rattle.std.proofs.lemmas.List.FromFn.{fill_by_all}
 use Rattle.phase_law.specs.declared.values.Share.{Share}
-use Rattle.trial_model.specs.Fits.{number, link_at}
+use Rattle.fixed_num.specs.Lists.{number}
+use Rattle.trial_model.specs.Fits.{link_fixed_at}
 use Rattle.trial_model.specs.Parts.{in_part, out_part, area_part}
 use Rattle.trial_model.specs.Trial.{share_of, inflow_of, outflow_of, area_of}
-use Rattle.trial_model.proofs.LoopLemmas.{flows_more, sums_more}
+use Rattle.trial_model.proofs.LoopLemmas.{flows_more, sums_more, least_more}
 use Rattle.trial_model.proofs.SumLemmas.{in_parts, out_parts, area_parts}
-use Rattle.trial_model.proofs.RangeLemmas.{shares_fit, in_most, out_most, area_most, sums_room, sums_done, part_same}
+use Rattle.trial_model.proofs.RangeLemmas.{first_within, second_within, shares_fit, in_most, out_most, area_most, sums_room, sums_done, part_same}
 use Rattle.trial_model.proofs.link_phase.make_flows.Goals as goal
+
+pub add_share-requires-clause-near_in : goal.add_share-requires-clause-near_in
+add_share-requires-clause-near_in g c =
+    let good = g.met.P.PhaseLaw.good c.args.law.now in
+    first_within good c.loop-link.link (omega (arith, c.loop-link-test.true, c.links-link-end.ensures)) c.ends-near.ensures c.loop-link.inflows
+    (c.loop-link.auto.inflows ∙ ap length c.requires.inflows ∙ length-replicate _ (pos 0))
+
+pub add_share-requires-clause-near_out : goal.add_share-requires-clause-near_out
+add_share-requires-clause-near_out g c =
+    let good = g.met.P.PhaseLaw.good c.args.law.now in
+    first_within good c.loop-link.link (omega (arith, c.loop-link-test.true, c.links-link-end.ensures)) c.ends-near.ensures c.loop-link.outflows
+    (c.loop-link.auto.outflows ∙ ap length c.requires.outflows ∙ length-replicate _ (pos 0))
+
+pub add_share-requires-clause-near_area : goal.add_share-requires-clause-near_area
+add_share-requires-clause-near_area g c =
+    let good = g.met.P.PhaseLaw.good c.args.law.now in
+    first_within good c.loop-link.link (omega (arith, c.loop-link-test.true, c.links-link-end.ensures)) c.ends-near.ensures c.loop-link.areas
+    (c.loop-link.auto.areas ∙ ap length c.requires.areas ∙ length-replicate _ (pos 0))
+
+pub add_share-requires-clause-far_in : goal.add_share-requires-clause-far_in
+add_share-requires-clause-far_in g c =
+    let good = g.met.P.PhaseLaw.good c.args.law.now in
+    second_within good c.loop-link.link (omega (arith, c.loop-link-test.true, c.links-link-end.ensures)) c.ends-near.ensures c.loop-link.inflows
+    (c.loop-link.auto.inflows ∙ ap length c.requires.inflows ∙ length-replicate _ (pos 0))
+
+pub add_share-requires-clause-far_out : goal.add_share-requires-clause-far_out
+add_share-requires-clause-far_out g c =
+    let good = g.met.P.PhaseLaw.good c.args.law.now in
+    second_within good c.loop-link.link (omega (arith, c.loop-link-test.true, c.links-link-end.ensures)) c.ends-near.ensures c.loop-link.outflows
+    (c.loop-link.auto.outflows ∙ ap length c.requires.outflows ∙ length-replicate _ (pos 0))
+
+pub add_share-requires-clause-far_area : goal.add_share-requires-clause-far_area
+add_share-requires-clause-far_area g c =
+    let good = g.met.P.PhaseLaw.good c.args.law.now in
+    second_within good c.loop-link.link (omega (arith, c.loop-link-test.true, c.links-link-end.ensures)) c.ends-near.ensures c.loop-link.areas
+    (c.loop-link.auto.areas ∙ ap length c.requires.areas ∙ length-replicate _ (pos 0))
 
 pub add_share-requires-clause-inflows : goal.add_share-requires-clause-inflows
 add_share-requires-clause-inflows g c =
@@ -55,13 +92,14 @@ loop-link-preserved g c =
     c.share_at-share.ensures.value
     ∙ ap
     (λ (q : ℤ).
-    law.share link (link_at c.args.links.now link) c.args.first
+    law.share link (link_fixed_at c.args.links.now link) c.args.first
     (number c.args.heads.now (law.ends link).0)
     (number c.args.heads.now (law.ends link).1)
     q)
     last in
     let ends = c.ends-near.ensures in
     let fits : FitsSigned w64 c.share_at-share.result.q = search rules in
+    let fits_least : FitsSigned w64 c.lesser-least.result = search rules in
     let within : link < length c.loop-link.flows =
     omega (arith, c.loop-link-test.true, c.links-link-end.ensures, c.loop-link.auto.flows, c.requires.flows.count) in
     record {
@@ -78,6 +116,8 @@ loop-link-preserved g c =
           (λ n. area_part c.ends-near.result c.share_at-share.result n)
           c.add_share.ensures.areas
           (part_same area_part ends same);
+      least =
+          to_z-of_z w64 _ fits_least ∙ least_more (λ k. (share k).time) link (pos 3_600_000) kept.least c.lesser-least.ensures (ap (λ (s : Share). s.time) same);
     }
 
 pub returns-clause-flows : goal.returns-clause-flows

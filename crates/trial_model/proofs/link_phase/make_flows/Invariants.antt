@@ -1,3 +1,5 @@
+use Rattle.std.proofs.Common.{◌≡◌, pos}
+use Rattle.fixed_num.specs.Sums.{least_below}
 use Rattle.trial_model.specs.Trial.{share_of}
 use Rattle.trial_model.specs.Parts.{in_part, out_part, area_part}
 use Rattle.trial_model.proofs.LoopLemmas.{FlowsMade, SumsMade}
@@ -12,4 +14,5 @@ invariant-loop-link g l =
       inflows : SumsMade (λ k. in_part (law.ends k) (share k)) l.inflows l.link;
       outflows : SumsMade (λ k. out_part (law.ends k) (share k)) l.outflows l.link;
       areas : SumsMade (λ k. area_part (law.ends k) (share k)) l.areas l.link;
+      least : l.least ≡ least_below (pos 3_600_000) (λ k. (share k).time) l.link;
     }

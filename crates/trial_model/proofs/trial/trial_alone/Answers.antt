@@ -1,8 +1,9 @@
 use Rattle.std.proofs.Common.{ap, sym, subst, ◌∙◌}
-use Rattle.phase_law.specs.Sums.{below}
+use Rattle.fixed_num.specs.Sums.{below}
 use Rattle.trial_model.specs.declared.nets.Nets.{Nets}
 use Rattle.trial_model.specs.Fits.{Fits}
-use Rattle.trial_model.specs.Trial.{list_of, next_in, unsettled_part, trial, unsettled_in, SumsOf}
+use Rattle.fixed_num.specs.Lists.{list_of}
+use Rattle.trial_model.specs.Trial.{next_in, unsettled_part, trial, unsettled_in, SumsOf}
 use Rattle.trial_model.proofs.RangeLemmas.{with_flows_fit}
 use Rattle.trial_model.proofs.TrialLemmas.{trial_fits, trial_sums}
 use Rattle.trial_model.proofs.trial.trial_alone.Goals as goal
