@@ -2,7 +2,8 @@
 use Rattle.std.proofs.Common.{◌≡◌, ℕ, zero, suc, ◌+◌, ◌*◌, ◌^◌, ◌<◌, ◌≤◌, ℤ, pos, negsuc, ◌+ℤ◌, ◌*ℤ◌, ◌≤ℤ◌, neg_ℤ, unsigned_abs, arith}
 use Rattle.std.specs.Int.{int_min}
 use Rattle.std.proofs.lemmas.Int.{ints, clamps}
-use Rattle.fixed_num.specs.Ranges.{IsBetween, IsWithin}
+use Rattle.fixed_num.specs.Ranges.{IsBetween, IsWithin, IsStepLength}
+use Rattle.fixed_num.specs.declared.constants.TheConstants.{GRAVITY}
 use Rattle.fixed_num.specs.Roots.{root3_of}
 use Rattle.fixed_num.specs.Rounding.{quo_of}
 use Rattle.fixed_num.proofs.Bounds.{between_number, between_abs, between_add, between_mul, between_quo_by, between_root3, between_up, within_add, within_between, within_cut, within_minus, within_mul, within_number, within_quo_by, within_up, le_number}
@@ -36,10 +37,13 @@ pub velocity-within : (flow area : ℤ) → IsWithin 15_240_000 (velocity_of flo
 unfolding velocity_of
 velocity-within flow area = within_cut (quo_of (flow *ℤ pos 1_000_000) area) (le_number tt) (within_minus 15_240_000) (within_number 15_240_000)
 
-pub drive-within : {area fall dt : ℤ} → IsBetween (pos 1) area (pos (10 ^ 11)) → IsWithin (4 * 10 ^ 10) fall → IsBetween (pos 0) dt (pos 3_600_000) → IsWithin (10 ^ 36) (pos 9_814_560 *ℤ area *ℤ fall *ℤ dt)
-drive-within a f t = within_up (within_mul (within_mul (within_mul (within_number 9_814_560) (within_between a)) f) (within_between t)) tt
+pub step-between : {dt : ℤ} → IsStepLength dt → IsBetween (pos 0) dt (pos 3_600_000)
+step-between t = record { from = t.least; to = t.most }
 
-pub pressure-within : {area fall dt length : ℤ} → IsBetween (pos 1) area (pos (10 ^ 11)) → IsWithin (4 * 10 ^ 10) fall → IsBetween (pos 0) dt (pos 3_600_000) → IsBetween (pos 10_000) length (pos (10 ^ 11)) → IsWithin (10 ^ 23) (pressure_of area fall dt length)
+pub drive-within : {area fall dt : ℤ} → IsBetween (pos 1) area (pos (10 ^ 11)) → IsWithin (4 * 10 ^ 10) fall → IsStepLength dt → IsWithin (10 ^ 36) (GRAVITY *ℤ area *ℤ fall *ℤ dt)
+drive-within a f t = within_up (within_mul (within_mul (within_mul (within_number 9_814_560) (within_between a)) f) (within_between (step-between t))) tt
+
+pub pressure-within : {area fall dt length : ℤ} → IsBetween (pos 1) area (pos (10 ^ 11)) → IsWithin (4 * 10 ^ 10) fall → IsStepLength dt → IsBetween (pos 10_000) length (pos (10 ^ 11)) → IsWithin (10 ^ 23) (pressure_of area fall dt length)
 unfolding pressure_of
 pressure-within a f t l =
     let below = between_mul (between_number (pos 1_000_000_000)) l in
@@ -65,10 +69,10 @@ pub radius_power-between : {radius : ℤ} → IsBetween (pos 1) radius (pos (10 
 unfolding radius_power_of
 radius_power-between r = between_mul r (root-between r)
 
-pub drag-between : {n6 velocity dt : ℤ} → IsBetween (pos 1_000) n6 (pos (10 ^ 6)) → IsWithin 15_240_000 velocity → IsBetween (pos 0) dt (pos 3_600_000) → IsBetween (pos 0) (pos 9_814_560 *ℤ (n6 *ℤ n6) *ℤ pos (unsigned_abs velocity) *ℤ dt) (pos (10 ^ 33))
-drag-between n v t = between_up (between_mul (between_mul (between_mul (between_number (pos 9_814_560)) (between_mul n n)) (between_abs v)) t) tt tt
+pub drag-between : {n6 velocity dt : ℤ} → IsBetween (pos 1_000) n6 (pos (10 ^ 6)) → IsWithin 15_240_000 velocity → IsStepLength dt → IsBetween (pos 0) (GRAVITY *ℤ (n6 *ℤ n6) *ℤ pos (unsigned_abs velocity) *ℤ dt) (pos (10 ^ 33))
+drag-between n v t = between_up (between_mul (between_mul (between_mul (between_number (GRAVITY)) (between_mul n n)) (between_abs v)) (step-between t)) tt tt
 
-pub friction-between : {n6 velocity dt radius : ℤ} → IsBetween (pos 1_000) n6 (pos (10 ^ 6)) → IsWithin 15_240_000 velocity → IsBetween (pos 0) dt (pos 3_600_000) → IsBetween (pos 1) radius (pos (10 ^ 9)) → IsBetween (pos 0) (friction_of n6 velocity dt radius) (pos (10 ^ 26))
+pub friction-between : {n6 velocity dt radius : ℤ} → IsBetween (pos 1_000) n6 (pos (10 ^ 6)) → IsWithin 15_240_000 velocity → IsStepLength dt → IsBetween (pos 1) radius (pos (10 ^ 9)) → IsBetween (pos 0) (friction_of n6 velocity dt radius) (pos (10 ^ 26))
 unfolding friction_of
 friction-between n v t r =
     let below = between_mul (between_number (pos 10_000_000)) (radius_power-between r) in

@@ -2,6 +2,7 @@
 -- the profile of this project).
 use Rattle.std.specs.Prelude.{Bool, ◌||◌, if◌then◌else◌, ℤ, pos, ◌*ℤ◌}
 use Rattle.std.specs.Ordering.{int_eq}
+use Rattle.fixed_num.specs.Relaxation.{relaxed_of}
 use Rattle.fixed_num.specs.Rounding.{quo_of}
 use Rattle.phase_law.specs.declared.values.LinkFixed.{LinkFixed}
 use Rattle.phase_law.specs.declared.values.Share.{Share}
@@ -11,7 +12,8 @@ use Rattle.conduit_flow.specs.declared.geometry.Ends.{Ends}
 use Rattle.conduit_flow.specs.declared.geometry.Middle.{Middle}
 use Rattle.conduit_flow.specs.Geometry.{mean_depth_of, ends_of, middle_of, end_area_of}
 use Rattle.conduit_flow.specs.Momentum.{momentum_flow_of}
-use Rattle.conduit_flow.specs.Limits.{limited_of, relaxed_of, gated_of, supplied_of, held_of}
+use Rattle.conduit_flow.specs.TravelTime.{travel_time_of}
+use Rattle.conduit_flow.specs.Limits.{limited_of, gated_of, supplied_of, held_of}
 
 -- the flow of one barrel, from its flow at the step's start and its flow in the last trial: what the momentum equation gives, held
 -- to the normal flow, relaxed, barred by a flap gate and by a dry end, and cut to the greatest flow
@@ -25,17 +27,20 @@ barrel_flow_of conduit table fixed ends middle first old last =
 unfoldable pub barrel_part_of : (flow barrels : ℤ) → ℤ
 barrel_part_of flow barrels = quo_of flow barrels
 
--- a conduit that gives nothing
+-- a conduit that gives nothing and bounds no step
 abbrev pub no_share : Share
-no_share = record { q = pos 0; area1 = pos 0; area2 = pos 0 }
+no_share = record { q = pos 0; area1 = pos 0; area2 = pos 0; time = pos 3_600_000 }
 
 -- the share of a conduit in whose middle there is water to flow
 unfoldable pub wet_share_of : ConduitData → SectionTable → LinkFixed → Ends → Middle → (first : Bool) → (last : ℤ) → Share
-wet_share_of conduit table fixed ends middle first last = record {
-  q = table.barrels *ℤ barrel_flow_of conduit table fixed ends middle first (barrel_part_of fixed.q_old table.barrels) (barrel_part_of last table.barrels);
-  area1 = end_area_of ends.width1 middle.width conduit.length table.barrels;
-  area2 = end_area_of ends.width2 middle.width conduit.length table.barrels;
-}
+wet_share_of conduit table fixed ends middle first last =
+    let one = barrel_flow_of conduit table fixed ends middle first (barrel_part_of fixed.q_old table.barrels) (barrel_part_of last table.barrels) in
+    record {
+      q = table.barrels *ℤ one;
+      area1 = end_area_of ends.width1 middle.width conduit.length table.barrels;
+      area2 = end_area_of ends.width2 middle.width conduit.length table.barrels;
+      time = travel_time_of one middle conduit.length;
+    }
 
 -- there is no water to flow in the middle
 unfoldable pub is_dry : Middle → Bool

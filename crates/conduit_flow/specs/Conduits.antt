@@ -1,7 +1,7 @@
 -- Conduits and section tables that can be routed (User's Manual, sections [CONDUITS] and [XSECTIONS]; the ranges are this
 -- project's profile).
-use Rattle.std.specs.Prelude.{◌≡◌, ◌*◌, ◌^◌, false, pos}
-use Rattle.fixed_num.specs.Ranges.{IsBetween, IsWithin}
+use Rattle.std.specs.Prelude.{◌≡◌, ◌^◌, false, pos}
+use Rattle.fixed_num.specs.Ranges.{IsBetween, IsConduitLength, IsFlowLimit, IsRoughness, IsHead}
 use Rattle.net_types.specs.declared.options.Damping.TheVariants.{Full}
 use Rattle.xsect_tables.specs.SectionTable.{SectionTable, IsTable, full_area}
 use Rattle.conduit_flow.specs.declared.conduit.ConduitData.{ConduitData}
@@ -10,11 +10,11 @@ use Rattle.conduit_flow.specs.declared.conduit.ConduitData.{ConduitData}
 -- 10^12 cm³/s. The inertial terms are wholly damped, and nothing is lost at the ends or on the way: the other kinds of damping
 -- and the loss terms are not built, so no formula here has them.
 pub record IsConduit (conduit : ConduitData) : Type 0 where
-  pub z1 : IsWithin (2 * 10 ^ 10) conduit.z1
-  pub z2 : IsWithin (2 * 10 ^ 10) conduit.z2
-  pub length : IsBetween (pos 10_000) conduit.length (pos (10 ^ 11))
-  pub n6 : IsBetween (pos 1_000) conduit.n6 (pos (10 ^ 6))
-  pub q_max : IsBetween (pos 0) conduit.q_max (pos (10 ^ 12))
+  pub z1 : IsHead conduit.z1
+  pub z2 : IsHead conduit.z2
+  pub length : IsConduitLength conduit.length
+  pub n6 : IsRoughness conduit.n6
+  pub q_max : IsFlowLimit conduit.q_max
   pub damping : conduit.damping ≡ Full
   pub entry6 : conduit.entry6 ≡ pos 0
   pub exit6 : conduit.exit6 ≡ pos 0

@@ -1,8 +1,8 @@
 -- The water that stands in a conduit: depths at its ends, its section in the middle, its volume and its surface (Reference Manual
 -- volume II, chapter 3).
-use Rattle.std.specs.Prelude.{◌*◌, ◌^◌, ℤ, pos, ◌+ℤ◌, ◌-ℤ◌, ◌*ℤ◌}
+use Rattle.std.specs.Prelude.{◌^◌, ℤ, pos, ◌+ℤ◌, ◌-ℤ◌, ◌*ℤ◌}
 use Rattle.std.specs.Int.{int_min, int_max}
-use Rattle.fixed_num.specs.Ranges.{IsBetween, IsWithin}
+use Rattle.fixed_num.specs.Ranges.{IsBetween, IsHead, IsWaterDepth}
 use Rattle.fixed_num.specs.Rounding.{quo_of}
 use Rattle.xsect_tables.specs.LookUps.{area_of, width_of, radius_of}
 use Rattle.xsect_tables.specs.SectionTable.{SectionTable}
@@ -61,10 +61,10 @@ end_area_of width middle_width length barrels =
 
 -- ---- their ranges
 pub record EndsInRange (ends : Ends) : Type 0 where
-  pub surface1 : IsWithin (2 * 10 ^ 10) ends.surface1
-  pub surface2 : IsWithin (2 * 10 ^ 10) ends.surface2
-  pub depth1 : IsBetween (pos 0) ends.depth1 (pos (4 * 10 ^ 10))
-  pub depth2 : IsBetween (pos 0) ends.depth2 (pos (4 * 10 ^ 10))
+  pub surface1 : IsHead ends.surface1
+  pub surface2 : IsHead ends.surface2
+  pub depth1 : IsWaterDepth ends.depth1
+  pub depth2 : IsWaterDepth ends.depth2
   pub width1 : IsBetween (pos 0) ends.width1 (pos (10 ^ 12))
   pub width2 : IsBetween (pos 0) ends.width2 (pos (10 ^ 12))
 

@@ -2,4 +2,5 @@ pub mod Conduits
 pub mod Geometry
 pub mod Momentum
 pub mod Limits
+pub mod TravelTime
 pub mod ConduitShare

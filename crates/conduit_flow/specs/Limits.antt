@@ -1,6 +1,6 @@
 -- What bounds the flow of a conduit's barrel (Reference Manual volume II, chapter 3; User's Manual, NORMAL_FLOW_LIMITED, flap gates
 -- and maximum flow). Flows are cm³/s.
-use Rattle.std.specs.Prelude.{◌/◌, Bool, ◌&&◌, ◌||◌, if◌then◌else◌, ℤ, pos, ◌+ℤ◌, ◌-ℤ◌, ◌*ℤ◌, neg_ℤ, unsigned_abs, int_le, int_lt}
+use Rattle.std.specs.Prelude.{◌/◌, Bool, ◌&&◌, ◌||◌, if◌then◌else◌, ℤ, pos, ◌-ℤ◌, ◌*ℤ◌, neg_ℤ, unsigned_abs, int_le, int_lt}
 use Rattle.std.specs.Int.{int_min}
 use Rattle.std.specs.Ordering.{int_eq}
 use Rattle.fixed_num.specs.Ranges.{cut_of}
@@ -39,11 +39,6 @@ unfoldable pub limited_of : ConduitData → SectionTable → Ends → ℤ → �
 limited_of conduit table ends q =
     if is_limited conduit table ends q then int_min q (normal_flow_of table ends.depth1 conduit.n6 (conduit.z1 -ℤ conduit.z2) conduit.length)
     else q
-
--- ---- under-relaxation
--- after the first trial: the mean of the last trial's flow and the new one
-unfoldable pub relaxed_of : Bool → (last q : ℤ) → ℤ
-relaxed_of first last q = if first then q else quo_of (last +ℤ q) (pos 2)
 
 -- ---- what bars a flow
 -- a flap gate lets nothing run back

@@ -2,6 +2,7 @@
 -- numbers by this project's profile). Speeds are µm/s, flows cm³/s, the step's length `dt` is in ms.
 use Rattle.std.specs.Prelude.{ℤ, pos, ◌+ℤ◌, ◌-ℤ◌, ◌*ℤ◌, neg_ℤ, unsigned_abs}
 use Rattle.fixed_num.specs.Ranges.{cut_of}
+use Rattle.fixed_num.specs.declared.constants.TheConstants.{GRAVITY}
 use Rattle.fixed_num.specs.Roots.{root3_of}
 use Rattle.fixed_num.specs.Rounding.{quo_of}
 use Rattle.phase_law.specs.declared.values.LinkFixed.{LinkFixed}
@@ -15,7 +16,7 @@ velocity_of flow area = cut_of (quo_of (flow *ℤ pos 1_000_000) area) (neg_ℤ 
 
 -- the flow that the pressure adds in a step: gravity on the fall of the water surface, over the conduit's length
 unfoldable pub pressure_of : (area fall dt length : ℤ) → ℤ
-pressure_of area fall dt length = quo_of (pos 9_814_560 *ℤ area *ℤ fall *ℤ dt) (pos 1_000_000_000 *ℤ length)
+pressure_of area fall dt length = quo_of (GRAVITY *ℤ area *ℤ fall *ℤ dt) (pos 1_000_000_000 *ℤ length)
 
 -- the four thirds power of the hydraulic radius
 unfoldable pub radius_power_of : (radius : ℤ) → ℤ
@@ -24,7 +25,7 @@ radius_power_of radius = radius *ℤ root3_of (radius *ℤ pos 1_000_000_000)
 -- the part of the flow that friction takes in a step, by Manning's formula, in 10^-9 of the flow
 unfoldable pub friction_of : (n6 velocity dt radius : ℤ) → ℤ
 friction_of n6 velocity dt radius =
-    quo_of (pos 9_814_560 *ℤ (n6 *ℤ n6) *ℤ pos (unsigned_abs velocity) *ℤ dt) (pos 10_000_000 *ℤ radius_power_of radius)
+    quo_of (GRAVITY *ℤ (n6 *ℤ n6) *ℤ pos (unsigned_abs velocity) *ℤ dt) (pos 10_000_000 *ℤ radius_power_of radius)
 
 -- the new flow: the old one and what the pressure adds, slowed by friction
 unfoldable pub slowed_of : (old pressure friction : ℤ) → ℤ

@@ -1,6 +1,6 @@
 // The water that stands in a conduit.
 ghost use Rattle.std.specs.Prelude.{◌≡◌, ◌*◌, ◌^◌, ℤ, pos};
-ghost use Rattle.fixed_num.specs.Ranges.{IsBetween, IsWithin};
+ghost use Rattle.fixed_num.specs.Ranges.{IsBetween, IsConduitLength, AreBarrels, IsHead, IsWaterDepth};
 ghost use Rattle.conduit_flow.specs.Conduits.{IsConduit, IsConduitTable};
 ghost use Rattle.conduit_flow.specs.Geometry.{surface_of, depth_of, mean_depth_of, mid_area_of, prism_of, volume_of, ends_of, middle_of, end_area_of, EndsInRange, MiddleInRange};
 
@@ -34,8 +34,8 @@ pub(crate) struct Middle {
 pub fn mid_area(conduit: &ConduitData, table: &Table, near: i64, far: i64) -> i64
     requires conduit { IsConduit conduit.now }
     requires table { IsConduitTable table.now }
-    requires near { IsWithin (2 * 10 ^ 10) near }
-    requires far { IsWithin (2 * 10 ^ 10) far }
+    requires near { IsHead near }
+    requires far { IsHead far }
     ensures value { result ≡ mid_area_of conduit.now table.now near far }
     ensures range { IsBetween (pos 0) result (pos (10 ^ 11)) }
 {
@@ -49,8 +49,8 @@ pub fn mid_area(conduit: &ConduitData, table: &Table, near: i64, far: i64) -> i6
 pub fn conduit_volume(conduit: &ConduitData, table: &Table, near: i64, far: i64) -> i128
     requires conduit { IsConduit conduit.now }
     requires table { IsConduitTable table.now }
-    requires near { IsWithin (2 * 10 ^ 10) near }
-    requires far { IsWithin (2 * 10 ^ 10) far }
+    requires near { IsHead near }
+    requires far { IsHead far }
     ensures value { result ≡ volume_of conduit.now table.now near far }
     ensures range { IsBetween (pos 0) result (pos (10 ^ 22)) }
 {
@@ -65,8 +65,8 @@ pub fn conduit_volume(conduit: &ConduitData, table: &Table, near: i64, far: i64)
 #[tactic(auto, using(fixed_num::proofs::Bounds::casts), unfolding(crate::specs::Geometry::prism_of))]
 fn prism(area: i64, length: i64, barrels: i64) -> i128
     requires area { IsBetween (pos 0) area (pos (10 ^ 11)) }
-    requires length { IsBetween (pos 10_000) length (pos (10 ^ 11)) }
-    requires barrels { IsBetween (pos 1) barrels (pos 100) }
+    requires length { IsConduitLength length }
+    requires barrels { AreBarrels barrels }
     ensures value { result ≡ prism_of area length barrels }
     ensures range { IsBetween (pos 0) result (pos (10 ^ 22)) }
 {
@@ -76,10 +76,10 @@ fn prism(area: i64, length: i64, barrels: i64) -> i128
 // The water surface at an end.
 #[tactic(auto, using(fixed_num::proofs::Bounds::casts), unfolding(crate::specs::Geometry::surface_of))]
 fn surface(head: i64, invert: i64) -> i64
-    requires head { IsWithin (2 * 10 ^ 10) head }
-    requires invert { IsWithin (2 * 10 ^ 10) invert }
+    requires head { IsHead head }
+    requires invert { IsHead invert }
     ensures value { result ≡ surface_of head invert }
-    ensures range { IsWithin (2 * 10 ^ 10) result }
+    ensures range { IsHead result }
 {
     head.max(invert)
 }
@@ -87,10 +87,10 @@ fn surface(head: i64, invert: i64) -> i64
 // The depth of water at an end.
 #[tactic(auto, using(fixed_num::proofs::Bounds::casts), unfolding(crate::specs::Geometry::depth_of, crate::specs::Geometry::surface_of))]
 fn depth(head: i64, invert: i64) -> i64
-    requires head { IsWithin (2 * 10 ^ 10) head }
-    requires invert { IsWithin (2 * 10 ^ 10) invert }
+    requires head { IsHead head }
+    requires invert { IsHead invert }
     ensures value { result ≡ depth_of head invert }
-    ensures range { IsBetween (pos 0) result (pos (4 * 10 ^ 10)) }
+    ensures range { IsWaterDepth result }
 {
     head.max(invert) - invert
 }
@@ -99,8 +99,8 @@ fn depth(head: i64, invert: i64) -> i64
 #[tactic(auto, using(fixed_num::proofs::Bounds::casts), unfolding(crate::specs::Geometry::mean_depth_of))]
 pub(crate) fn mean_depth(conduit: &ConduitData, near: i64, far: i64) -> i64
     requires conduit { IsConduit conduit.now }
-    requires near { IsWithin (2 * 10 ^ 10) near }
-    requires far { IsWithin (2 * 10 ^ 10) far }
+    requires near { IsHead near }
+    requires far { IsHead far }
     ensures value { result ≡ mean_depth_of conduit.now near far }
 {
     let depth1 = depth(near, conduit.z1);
@@ -112,8 +112,8 @@ pub(crate) fn mean_depth(conduit: &ConduitData, near: i64, far: i64) -> i64
 #[tactic(auto, using(fixed_num::proofs::Bounds::casts), unfolding(crate::specs::Geometry::ends_of))]
 pub(crate) fn ends_at(conduit: &ConduitData, table: &Table, near: i64, far: i64) -> Ends
     requires conduit { IsConduit conduit.now }
-    requires near { IsWithin (2 * 10 ^ 10) near }
-    requires far { IsWithin (2 * 10 ^ 10) far }
+    requires near { IsHead near }
+    requires far { IsHead far }
     ensures value { result ≡ ends_of conduit.now table.now near far }
     ensures range { EndsInRange result }
 {
@@ -148,8 +148,8 @@ pub(crate) fn middle_at(table: &Table, depth: i64) -> Middle
 pub(crate) fn end_area(width: i64, middle_width: i64, length: i64, barrels: i64) -> i64
     requires width { IsBetween (pos 0) width (pos (10 ^ 12)) }
     requires middle { IsBetween (pos 0) middle_width (pos (10 ^ 12)) }
-    requires length { IsBetween (pos 10_000) length (pos (10 ^ 11)) }
-    requires barrels { IsBetween (pos 1) barrels (pos 100) }
+    requires length { IsConduitLength length }
+    requires barrels { AreBarrels barrels }
     ensures value { result ≡ end_area_of width middle_width length barrels }
     ensures range { IsBetween (pos 0) result (pos (5 * 10 ^ 12)) }
 {

@@ -16,6 +16,7 @@ mod momentum;
 mod share;
 #[cfg(test)]
 mod tests;
+mod travel;
 
 pub use conduit::ConduitData;
 pub use geometry::{conduit_volume, mid_area};

@@ -1,9 +1,9 @@
 // What bounds the flow of a conduit's barrel.
 ghost use Rattle.std.specs.Prelude.{◌≡◌, ◌*◌, ◌^◌, ℤ, pos, ◌*ℤ◌, int_lt};
-ghost use Rattle.fixed_num.specs.Ranges.{IsBetween, IsWithin};
+ghost use Rattle.fixed_num.specs.Ranges.{IsWithin, IsBetween, AreBarrels, IsFlow, IsFlowLimit};
 ghost use Rattle.conduit_flow.specs.Conduits.{IsConduit, IsConduitTable};
 ghost use Rattle.conduit_flow.specs.Geometry.{EndsInRange};
-ghost use Rattle.conduit_flow.specs.Limits.{is_flatter as flatter_of, is_fast as fast_of, is_limited as limited_at, limited_of, relaxed_of, gated_of, from_dry as dry_of, supplied_of, greatest_of, held_of};
+ghost use Rattle.conduit_flow.specs.Limits.{is_flatter as flatter_of, is_fast as fast_of, is_limited as limited_at, limited_of, gated_of, from_dry as dry_of, supplied_of, greatest_of, held_of};
 
 use crate::conduit::ConduitData;
 use crate::geometry::Ends;
@@ -86,20 +86,6 @@ pub(crate) fn limited(conduit: &ConduitData, table: &Table, ends: &Ends, q: i128
     q.min(table.normal_flow(ends.depth1, conduit.n6, drop, conduit.length))
 }
 
-// After the first trial, the mean of the last trial's flow and the new one.
-#[tactic(auto, using(fixed_num::proofs::Bounds::casts), unfolding(crate::specs::Limits::relaxed_of))]
-pub(crate) fn relaxed(first: bool, last: i64, q: i128) -> i128
-    requires last { IsWithin (10 ^ 12) last }
-    requires q { IsWithin (10 ^ 24) q }
-    ensures value { result ≡ relaxed_of first last q }
-    ensures range { IsWithin (10 ^ 25) result }
-{
-    if first {
-        return q;
-    }
-    quo(last as i128 + q, 2)
-}
-
 // A flow that a flap gate does not let run back.
 #[tactic(auto, using(fixed_num::proofs::Bounds::casts), unfolding(crate::specs::Limits::gated_of))]
 pub(crate) fn gated(flap: bool, q: i128) -> i128
@@ -133,8 +119,8 @@ pub(crate) fn supplied(ends: &Ends, q: i128) -> i128
 // The greatest flow of one barrel.
 #[tactic(auto, using(fixed_num::proofs::Bounds::casts), unfolding(crate::specs::Limits::greatest_of))]
 fn greatest(q_max: i64, barrels: i64) -> i64
-    requires most { IsBetween (pos 0) q_max (pos (10 ^ 12)) }
-    requires barrels { IsBetween (pos 1) barrels (pos 100) }
+    requires most { IsFlowLimit q_max }
+    requires barrels { AreBarrels barrels }
     ensures value { result ≡ greatest_of q_max barrels }
     ensures range { IsBetween (pos 0) result (pos (10 ^ 12)) }
     // All barrels together carry no more than 10^12.
@@ -150,11 +136,11 @@ fn greatest(q_max: i64, barrels: i64) -> i64
 // A flow cut to the greatest one, either way.
 #[tactic(auto, using(fixed_num::proofs::Bounds::casts), unfolding(crate::specs::Limits::held_of))]
 pub(crate) fn held(q_max: i64, barrels: i64, q: i128) -> i64
-    requires most { IsBetween (pos 0) q_max (pos (10 ^ 12)) }
-    requires barrels { IsBetween (pos 1) barrels (pos 100) }
+    requires most { IsFlowLimit q_max }
+    requires barrels { AreBarrels barrels }
     ensures value { result ≡ held_of q_max barrels q }
-    ensures range { IsWithin (10 ^ 12) result }
-    ensures whole { IsWithin (10 ^ 12) (barrels *ℤ result) }
+    ensures range { IsFlow result }
+    ensures whole { IsFlow (barrels *ℤ result) }
 {
     let most = greatest(q_max, barrels) as i128;
     cut(q, 0 - most, most) as i64

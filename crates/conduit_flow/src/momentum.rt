@@ -1,20 +1,20 @@
 // The momentum equation of a conduit.
 ghost use Rattle.std.specs.Prelude.{◌≡◌, ◌*◌, ◌^◌, ℤ, pos};
-ghost use Rattle.fixed_num.specs.Ranges.{IsBetween, IsWithin};
-ghost use Rattle.phase_law.specs.Ranges.{LinkInRange};
+ghost use Rattle.fixed_num.specs.Ranges.{IsWithin, IsBetween, IsConduitLength, IsFlow, IsRoughness, IsFall, IsStepLength};
+ghost use Rattle.phase_law.specs.Ranges.{LinkFixedInRange};
 ghost use Rattle.conduit_flow.specs.Conduits.{IsConduit};
 ghost use Rattle.conduit_flow.specs.Geometry.{EndsInRange, IsWet};
 ghost use Rattle.conduit_flow.specs.Momentum.{velocity_of, pressure_of, radius_power_of, friction_of, slowed_of, momentum_flow_of};
 
 use crate::conduit::ConduitData;
 use crate::geometry::{Ends, Middle};
-use fixed_num::{cut, quo, root3};
+use fixed_num::{GRAVITY, cut, quo, root3};
 use phase_law::LinkFixed;
 
 // The velocity of a flow through an area, in µm/s.
 #[tactic(auto, using(fixed_num::proofs::Bounds::casts), unfolding(crate::specs::Momentum::velocity_of))]
 fn velocity(flow: i64, area: i64) -> i64
-    requires flow { IsWithin (10 ^ 12) flow }
+    requires flow { IsFlow flow }
     requires area { IsBetween (pos 1) area (pos (10 ^ 11)) }
     ensures value { result ≡ velocity_of flow area }
     ensures range { IsWithin 15_240_000 result }
@@ -30,14 +30,14 @@ fn velocity(flow: i64, area: i64) -> i64
 #[tactic(auto, using(fixed_num::proofs::Bounds::casts), unfolding(crate::specs::Momentum::pressure_of))]
 fn pressure(area: i64, fall: i64, dt: i64, length: i64) -> i128
     requires area { IsBetween (pos 1) area (pos (10 ^ 11)) }
-    requires fall { IsWithin (4 * 10 ^ 10) fall }
-    requires dt { IsBetween (pos 0) dt (pos 3_600_000) }
-    requires length { IsBetween (pos 10_000) length (pos (10 ^ 11)) }
+    requires fall { IsFall fall }
+    requires dt { IsStepLength dt }
+    requires length { IsConduitLength length }
     ensures value { result ≡ pressure_of area fall dt length }
     ensures range { IsWithin (10 ^ 23) result }
 {
     quo(
-        9_814_560 * area as i128 * fall as i128 * dt as i128,
+        GRAVITY * area as i128 * fall as i128 * dt as i128,
         1_000_000_000 * length as i128,
     )
 }
@@ -55,21 +55,21 @@ fn radius_power(radius: i64) -> i128
 // The part of the flow that friction takes in a step, in 10^-9 of the flow.
 #[tactic(auto, using(fixed_num::proofs::Bounds::casts), unfolding(crate::specs::Momentum::friction_of))]
 fn friction(n6: i64, velocity: i64, dt: i64, radius: i64) -> i128
-    requires roughness { IsBetween (pos 1_000) n6 (pos (10 ^ 6)) }
+    requires roughness { IsRoughness n6 }
     requires velocity { IsWithin 15_240_000 velocity }
-    requires dt { IsBetween (pos 0) dt (pos 3_600_000) }
+    requires dt { IsStepLength dt }
     requires radius { IsBetween (pos 1) radius (pos (10 ^ 9)) }
     ensures value { result ≡ friction_of n6 velocity dt radius }
     ensures range { IsBetween (pos 0) result (pos (10 ^ 26)) }
 {
-    let drag = 9_814_560 * (n6 as i128 * n6 as i128) * velocity.unsigned_abs() as i128 * dt as i128;
+    let drag = GRAVITY * (n6 as i128 * n6 as i128) * velocity.unsigned_abs() as i128 * dt as i128;
     quo(drag, 10_000_000 * radius_power(radius))
 }
 
 // The new flow of the old one and what the pressure adds, slowed by friction.
 #[tactic(auto, using(fixed_num::proofs::Bounds::casts), unfolding(crate::specs::Momentum::slowed_of))]
 fn slowed(old: i64, pressure: i128, friction: i128) -> i128
-    requires old { IsWithin (10 ^ 12) old }
+    requires old { IsFlow old }
     requires pressure { IsWithin (10 ^ 23) pressure }
     requires friction { IsBetween (pos 0) friction (pos (10 ^ 26)) }
     ensures value { result ≡ slowed_of old pressure friction }
@@ -92,11 +92,11 @@ pub(crate) fn momentum_flow(
     last: i64,
 ) -> i128
     requires conduit { IsConduit conduit.now }
-    requires fixed { LinkInRange fixed.now }
+    requires fixed { LinkFixedInRange fixed.now }
     requires ends { EndsInRange ends.now }
     requires middle { IsWet middle.now }
-    requires old { IsWithin (10 ^ 12) old }
-    requires last { IsWithin (10 ^ 12) last }
+    requires old { IsFlow old }
+    requires last { IsFlow last }
     ensures value { result ≡ momentum_flow_of conduit.now fixed.now ends.now middle.now old last }
     ensures range { IsWithin (10 ^ 24) result }
 {

@@ -1,16 +1,17 @@
 // What a conduit gives in a trial.
 ghost use Rattle.std.specs.Prelude.{◌≡◌, ◌*◌, ◌^◌, ℤ, pos, ◌*ℤ◌};
-ghost use Rattle.fixed_num.specs.Ranges.{IsBetween, IsWithin};
-ghost use Rattle.phase_law.specs.Ranges.{FlowInRange, LinkInRange, ShareInRange};
+ghost use Rattle.fixed_num.specs.Ranges.{AreBarrels, IsFlow, IsHead};
+ghost use Rattle.phase_law.specs.Ranges.{LinkFixedInRange, ShareInRange};
 ghost use Rattle.conduit_flow.specs.Conduits.{IsConduit, IsConduitTable};
 ghost use Rattle.conduit_flow.specs.Geometry.{EndsInRange, MiddleInRange, IsWet};
 ghost use Rattle.conduit_flow.specs.ConduitShare.{share_of, open_share_of, wet_share_of, barrel_flow_of, barrel_part_of, no_share as nothing};
 
 use crate::conduit::ConduitData;
 use crate::geometry::{Ends, Middle, end_area, ends_at, mean_depth, middle_at};
-use crate::limits::{gated, held, limited, relaxed, supplied};
+use crate::limits::{gated, held, limited, supplied};
 use crate::momentum::momentum_flow;
-use fixed_num::quo;
+use crate::travel::travel_time;
+use fixed_num::{quo, relaxed};
 use phase_law::{LinkFixed, Share};
 use xsect_tables::Table;
 
@@ -32,10 +33,10 @@ pub fn conduit_share(
 ) -> Share
     requires conduit { IsConduit conduit.now }
     requires table { IsConduitTable table.now }
-    requires fixed { LinkInRange fixed.now }
-    requires near { IsWithin (2 * 10 ^ 10) near }
-    requires far { IsWithin (2 * 10 ^ 10) far }
-    requires last { FlowInRange last }
+    requires fixed { LinkFixedInRange fixed.now }
+    requires near { IsHead near }
+    requires far { IsHead far }
+    requires last { IsFlow last }
     ensures value { result ≡ share_of conduit.now table.now fixed.now first near far last }
     ensures range { ShareInRange result }
 {
@@ -55,6 +56,7 @@ fn no_share() -> Share
         q: 0,
         area1: 0,
         area2: 0,
+        time: 3_600_000,
     }
 }
 
@@ -71,10 +73,10 @@ fn open_share(
 ) -> Share
     requires conduit { IsConduit conduit.now }
     requires table { IsConduitTable table.now }
-    requires fixed { LinkInRange fixed.now }
+    requires fixed { LinkFixedInRange fixed.now }
     requires ends { EndsInRange ends.now }
     requires middle { MiddleInRange middle.now }
-    requires last { FlowInRange last }
+    requires last { IsFlow last }
     ensures value { result ≡ open_share_of conduit.now table.now fixed.now ends.now middle.now first last }
     ensures range { ShareInRange result }
 {
@@ -100,10 +102,10 @@ fn wet_share(
 ) -> Share
     requires conduit { IsConduit conduit.now }
     requires table { IsConduitTable table.now }
-    requires fixed { LinkInRange fixed.now }
+    requires fixed { LinkFixedInRange fixed.now }
     requires ends { EndsInRange ends.now }
     requires middle { IsWet middle.now }
-    requires last { FlowInRange last }
+    requires last { IsFlow last }
     ensures value { result ≡ wet_share_of conduit.now table.now fixed.now ends.now middle.now first last }
     ensures range { ShareInRange result }
 {
@@ -117,16 +119,17 @@ fn wet_share(
         q: barrels * one,
         area1: end_area(ends.width1, middle.width, conduit.length, barrels),
         area2: end_area(ends.width2, middle.width, conduit.length, barrels),
+        time: travel_time(one, middle, conduit.length),
     }
 }
 
 // The part of a flow that one barrel carries.
 #[tactic(auto, using(fixed_num::proofs::Bounds::casts), unfolding(crate::specs::ConduitShare::barrel_part_of))]
 fn barrel_part(flow: i64, barrels: i64) -> i64
-    requires flow { FlowInRange flow }
-    requires barrels { IsBetween (pos 1) barrels (pos 100) }
+    requires flow { IsFlow flow }
+    requires barrels { AreBarrels barrels }
     ensures value { result ≡ barrel_part_of flow barrels }
-    ensures range { IsWithin (10 ^ 12) result }
+    ensures range { IsFlow result }
 {
     quo(flow as i128, barrels as i128) as i64
 }
@@ -145,15 +148,15 @@ fn barrel_flow(
 ) -> i64
     requires conduit { IsConduit conduit.now }
     requires table { IsConduitTable table.now }
-    requires fixed { LinkInRange fixed.now }
+    requires fixed { LinkFixedInRange fixed.now }
     requires ends { EndsInRange ends.now }
     requires middle { IsWet middle.now }
-    requires old { IsWithin (10 ^ 12) old }
-    requires last { IsWithin (10 ^ 12) last }
+    requires old { IsFlow old }
+    requires last { IsFlow last }
     ensures value { result ≡ barrel_flow_of conduit.now table.now fixed.now ends.now middle.now first old last }
-    ensures range { IsWithin (10 ^ 12) result }
+    ensures range { IsFlow result }
     // All barrels together carry no more than 10^12.
-    ensures whole { IsWithin (10 ^ 12) (table.now.barrels *ℤ result) }
+    ensures whole { IsFlow (table.now.barrels *ℤ result) }
 {
     let driven = momentum_flow(conduit, fixed, ends, middle, old, last);
     let bound = limited(conduit, table, ends, driven);

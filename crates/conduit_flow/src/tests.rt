@@ -1,6 +1,6 @@
 ghost use Rattle.std.specs.Prelude.{◌*◌, ◌^◌, ℤ, pos};
-ghost use Rattle.fixed_num.specs.Ranges.{IsBetween, IsWithin};
-ghost use Rattle.phase_law.specs.Ranges.{LinkInRange};
+ghost use Rattle.fixed_num.specs.Ranges.{IsFlow, IsHead};
+ghost use Rattle.phase_law.specs.Ranges.{LinkFixedInRange};
 ghost use Rattle.conduit_flow.specs.Conduits.{IsConduit, IsConduitTable};
 
 use crate::{ConduitData, conduit_share, conduit_volume, mid_area};
@@ -28,7 +28,7 @@ fn channel(rt: &impl Abort) -> Table
 
 // A conduit 100 m long of roughness 0.01.
 fn reach(z1: i64, limiter: Limiter) -> ConduitData
-    requires { IsWithin (2 * 10 ^ 10) z1 }
+    requires { IsHead z1 }
     ensures { IsConduit result }
 {
     ConduitData {
@@ -48,8 +48,8 @@ fn reach(z1: i64, limiter: Limiter) -> ConduitData
 
 // A step of ten seconds from an old flow.
 fn step(q_old: i64) -> LinkFixed
-    requires { IsWithin (10 ^ 12) q_old }
-    ensures { LinkInRange result }
+    requires { IsFlow q_old }
+    ensures { LinkFixedInRange result }
 {
     LinkFixed {
         q_old,
@@ -60,11 +60,12 @@ fn step(q_old: i64) -> LinkFixed
 }
 
 // A share with both areas alike.
-fn share(q: i64, area: i64) -> Share {
+fn share(q: i64, area: i64, time: i64) -> Share {
     Share {
         q,
         area1: area,
         area2: area,
+        time,
     }
 }
 
@@ -92,10 +93,10 @@ fn a_level_reach_fills(rt: HostRuntime) {
         1_000_000,
         14_671,
     );
-    assert_eq!(rt; a, share(0, 50_000_000));
-    assert_eq!(rt; b, share(4_932, 50_000_000));
-    assert_eq!(rt; c, share(14_671, 50_000_000));
-    assert_eq!(rt; d, share(19_155, 50_000_000));
+    assert_eq!(rt; a, share(0, 50_000_000, 31_920));
+    assert_eq!(rt; b, share(4_932, 50_000_000, 31_791));
+    assert_eq!(rt; c, share(14_671, 50_000_000, 31_694));
+    assert_eq!(rt; d, share(19_155, 50_000_000, 31_580));
 }
 
 #[test]
@@ -103,7 +104,7 @@ fn water_runs_back(rt: HostRuntime) {
     let table = channel(&rt);
     let reach = reach(0, Limiter::Both);
     let back = conduit_share(&reach, &table, &step(0), true, 1_000_000, 1_100_000, 0);
-    assert_eq!(rt; back, share(-103_053, 50_000_000));
+    assert_eq!(rt; back, share(-103_053, 50_000_000, 30_227));
 }
 
 #[test]
@@ -112,11 +113,11 @@ fn a_steep_reach_is_held_to_its_normal_flow(rt: HostRuntime) {
     let (both, froude, slope) = steep(&table);
     assert_eq!(rt;
         conduit_share(&reach(0, Limiter::Both), &table, &step(0), true, 0, 0, 0),
-        share(0, 0)
+        share(0, 0, 3_600_000)
     );
-    assert_eq!(rt; both, share(4_581, 50_000_000));
-    assert_eq!(rt; froude, share(4_581, 50_000_000));
-    assert_eq!(rt; slope, share(4_956, 50_000_000));
+    assert_eq!(rt; both, share(4_581, 50_000_000, 87_895));
+    assert_eq!(rt; froude, share(4_581, 50_000_000, 87_895));
+    assert_eq!(rt; slope, share(4_956, 50_000_000, 82_459));
 }
 
 // The shares of a steep reach by the three limiters.

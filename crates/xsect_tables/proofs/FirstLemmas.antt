@@ -3,7 +3,7 @@ use Rattle.std.proofs.Common.{◌≡◌, ℕ, zero, suc, ◌+◌, ◌<◌, Bool,
 use Rattle.std.proofs.lemmas.Bool.{cases_lt}
 use Rattle.std.proofs.lemmas.Int.{ints}
 use Rattle.std.proofs.lemmas.Bool.Decides.{nat_tests}
-use Rattle.xsect_tables.specs.Sums.{first_that}
+use Rattle.xsect_tables.specs.FirstPlaces.{first_that}
 
 -- a number below which none passes
 pub first_more : (p : ℕ → Bool) (i : ℕ) → first_that p i ≡ i → p i ≡ false → first_that p (i + 1) ≡ i + 1

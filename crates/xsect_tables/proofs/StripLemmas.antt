@@ -8,7 +8,7 @@ use Rattle.fixed_num.proofs.Between.{product_from_zero}
 use Rattle.fixed_num.proofs.Bounds.{within_root2, within_add, within_mul, within_number, root2_of-from_zero, quo_of-zero}
 use Rattle.net_types.specs.declared.network.Section.{Section}
 use Rattle.xsect_tables.specs.SectionTable.{grid_width, grid_area, grid_perimeter, strip_area, strip_sides, sides_of}
-use Rattle.xsect_tables.specs.Sums.{sum_below}
+use Rattle.fixed_num.specs.Sums.{sum_below}
 
 -- ---- sums
 pub sum_more : (f : ℕ → ℤ) (i : ℕ) (sum next : ℤ) → sum ≡ sum_below f i → next ≡ f i → sum +ℤ next ≡ sum_below f (i + 1)

@@ -11,7 +11,7 @@ use Rattle.net_types.specs.declared.network.Shape.{Shape}
 use Rattle.net_types.specs.declared.network.Shape.TheVariants.{RectOpen, RectClosed, Trapezoidal, Triangular, Circular}
 use Rattle.xsect_tables.specs.Sections.{IsSection, IsRectOpen, HasSizes, width_at, shape_width}
 use Rattle.xsect_tables.specs.SectionTable.{SectionTable, entry, row_of, table_of, full_area, full_height, grid_height, grid_width, grid_area, grid_perimeter, strip_area, strip_sides, RowBetween, IsTable}
-use Rattle.xsect_tables.specs.Sums.{sum_below}
+use Rattle.fixed_num.specs.Sums.{sum_below}
 use Rattle.xsect_tables.specs.LookUps.{area_of, width_of, perimeter_of}
 use Rattle.xsect_tables.proofs.LookUpLemmas.{row_at-between}
 use Rattle.xsect_tables.proofs.GridLemmas.{grid, full_is, grid_is, grid-first, grid-last, grid-mono, grid_between}

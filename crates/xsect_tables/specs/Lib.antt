@@ -1,4 +1,4 @@
-pub mod Sums
+pub mod FirstPlaces
 pub mod Sections
 pub mod SectionTable
 pub mod LookUps

@@ -1,16 +1,17 @@
 -- Celerity, normal flow, and the critical and the normal depth (Reference Manual volume II, chapters 2 and 3).
 use Rattle.std.specs.Prelude.{ℕ, Bool, nat_lt, ◌&&◌, if◌then◌else◌, ℤ, pos, ◌*ℤ◌, int_le, int_lt}
 use Rattle.std.specs.Int.{int_max}
+use Rattle.fixed_num.specs.declared.constants.TheConstants.{GRAVITY}
 use Rattle.fixed_num.specs.Roots.{root2_of, root3_of}
 use Rattle.fixed_num.specs.Rounding.{quo_of}
 use Rattle.xsect_tables.specs.LookUps.{area_of, width_of, radius_of}
 use Rattle.xsect_tables.specs.SectionTable.{SectionTable, entry}
-use Rattle.xsect_tables.specs.Sums.{first_that}
+use Rattle.xsect_tables.specs.FirstPlaces.{first_that}
 
 -- the celerity of a shallow wave over an area (mm²) of a width (µm), which counts as at least 1 µm: the root of gravity
 -- by the mean depth, in µm/s
 unfoldable pub celerity_of : (area width : ℤ) → ℤ
-celerity_of area width = root2_of (pos 9_814_560 *ℤ quo_of (area *ℤ pos 1_000_000) (int_max width (pos 1)))
+celerity_of area width = root2_of (GRAVITY *ℤ quo_of (area *ℤ pos 1_000_000) (int_max width (pos 1)))
 
 -- the root of a slope in millionths; a drop below 305 µm counts as 305 µm
 unfoldable pub slope_of : (drop length : ℤ) → ℤ

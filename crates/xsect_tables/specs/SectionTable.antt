@@ -1,12 +1,12 @@
 -- The table of a cross-section: 201 grid heights, and what lies below each (this project's profile).
 use Rattle.std.specs.Prelude.{◌≡◌, ℕ, ◌+◌, ◌^◌, ◌<◌, ◌≤◌, Bool, List, map, slice_index_or, ℤ, pos, ◌+ℤ◌, ◌-ℤ◌, ◌*ℤ◌, ◌≤ℤ◌}
 use Rattle.std.specs.List.{range_with_len}
-use Rattle.fixed_num.specs.Ranges.{IsBetween}
+use Rattle.fixed_num.specs.Ranges.{IsBetween, IsFullHeight, AreBarrels}
 use Rattle.fixed_num.specs.Roots.{root2_of}
 use Rattle.fixed_num.specs.Rounding.{quo_of}
 use Rattle.net_types.specs.declared.network.Section.{Section}
 use Rattle.xsect_tables.specs.Sections.{width_at, is_closed}
-use Rattle.xsect_tables.specs.Sums.{sum_below}
+use Rattle.fixed_num.specs.Sums.{sum_below}
 
 -- four rows of 201 numbers: grid heights (µm), areas below them (mm²), widths at them and wetted perimeters
 -- below them (µm); with the number of barrels, and whether the section is closed at the top
@@ -80,7 +80,7 @@ full_area table = entry table.areas 200
 
 -- the heights are the grid of a full height of 1,000 to 10^9 µm
 pub record IsGrid (heights : List ℤ) : Type 0 where
-  pub full : IsBetween (pos 1_000) (entry heights 200) (pos (10 ^ 9))
+  pub full : IsFullHeight (entry heights 200)
   pub each : (i : ℕ) → i ≤ 200 → entry heights i ≡ grid_height (entry heights 200) i
 
 -- the first 201 numbers of a row lie in a to b
@@ -97,5 +97,5 @@ pub record IsTable (table : SectionTable) : Type 0 where
   pub widths : RowBetween (pos 0) table.widths (pos (10 ^ 12))
   pub bottom : pos 0 ≤ℤ entry table.perimeters 0
   pub perimeters : RowBetween (entry table.perimeters 0) table.perimeters (pos (10 ^ 13))
-  pub barrels : IsBetween (pos 1) table.barrels (pos 100)
+  pub barrels : AreBarrels table.barrels
   pub wet : full_area table ≤ℤ (pos 1_000 *ℤ entry table.perimeters 0)

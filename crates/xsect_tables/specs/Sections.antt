@@ -1,6 +1,6 @@
 -- Cross-sections: their ranges, and their width at a depth (User's Manual, section [XSECTIONS]).
 use Rattle.std.specs.Prelude.{◌^◌, ⊤, Bool, true, false, ℤ, pos, ◌+ℤ◌, ◌-ℤ◌, ◌*ℤ◌}
-use Rattle.fixed_num.specs.Ranges.{IsBetween}
+use Rattle.fixed_num.specs.Ranges.{IsFullHeight, IsWidth, AreBarrels, IsCoefficient}
 use Rattle.fixed_num.specs.Roots.{root2_of}
 use Rattle.fixed_num.specs.Rounding.{quo_of}
 use Rattle.net_types.specs.declared.network.Section.{Section}
@@ -9,16 +9,16 @@ use Rattle.net_types.specs.declared.network.Shape.TheVariants.{RectOpen, RectClo
 
 -- widths are 0 to 10^10 µm, side slopes 0 to 10^8 millionths
 abbrev pub HasSizes : Shape → Type 0
-HasSizes (RectOpen width) = IsBetween (pos 0) width (pos (10 ^ 10))
-HasSizes (RectClosed width) = IsBetween (pos 0) width (pos (10 ^ 10))
-HasSizes (Trapezoidal bottom left6 right6) = IsBetween (pos 0) bottom (pos (10 ^ 10)) × IsBetween (pos 0) left6 (pos (10 ^ 8)) × IsBetween (pos 0) right6 (pos (10 ^ 8))
-HasSizes (Triangular top) = IsBetween (pos 0) top (pos (10 ^ 10))
+HasSizes (RectOpen width) = IsWidth width
+HasSizes (RectClosed width) = IsWidth width
+HasSizes (Trapezoidal bottom left6 right6) = IsWidth bottom × IsCoefficient left6 × IsCoefficient right6
+HasSizes (Triangular top) = IsWidth top
 HasSizes Circular = ⊤
 
 -- a section as it is read: its full height is 1,000 to 10^9 µm, its barrels are 1 to 100
 pub record IsSection (section : Section) : Type 0 where
-  pub full : IsBetween (pos 1_000) section.full (pos (10 ^ 9))
-  pub barrels : IsBetween (pos 1) section.barrels (pos 100)
+  pub full : IsFullHeight section.full
+  pub barrels : AreBarrels section.barrels
   pub sizes : HasSizes section.shape
 
 -- a rectangular open section, the shape whose table can be built

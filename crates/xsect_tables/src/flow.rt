@@ -1,12 +1,12 @@
 // Celerity, uniform flow, and the depths at which a flow is critical or normal.
 ghost use Rattle.std.specs.Prelude.{◌≡◌, ℕ, ◌*◌, ◌^◌, ◌≤◌, ℤ, pos, ◌*ℤ◌, ◌≤ℤ◌};
-ghost use Rattle.fixed_num.specs.Ranges.{IsBetween, IsWithin};
+ghost use Rattle.fixed_num.specs.Ranges.{IsBetween, IsConduitLength, IsRoughness, IsFall};
 ghost use Rattle.xsect_tables.specs.LookUps.{ratio_of, radius_of};
 ghost use Rattle.xsect_tables.specs.SectionTable.{full_height};
 ghost use Rattle.xsect_tables.specs.NormalFlow.{celerity_of, slope_of, speed_of, discharge_of, uniform_of, normal_flow_of, is_carried as carried_at, is_subcritical as subcritical_at, critical_of, normal_of};
 
 use crate::table::Table;
-use fixed_num::{quo, root2, root3};
+use fixed_num::{GRAVITY, quo, root2, root3};
 
 /// The celerity of a shallow wave over an area in mm² of a width in µm, in µm/s.
 ///
@@ -17,7 +17,7 @@ pub fn celerity(area: i64, width: i64) -> i64
     ensures value { result ≡ celerity_of area width }
     ensures range { IsBetween (pos 0) result (pos (10 ^ 15)) }
 {
-    root2(9_814_560 * quo(area as i128 * 1_000_000, width.max(1) as i128)) as i64
+    root2(GRAVITY * quo(area as i128 * 1_000_000, width.max(1) as i128)) as i64
 }
 
 // An area in mm² over a wetted perimeter in µm.
@@ -33,8 +33,8 @@ fn ratio(area: i64, perimeter: i64) -> i64
 
 // The root of the slope of a drop over a length, in millionths.
 fn slope(drop: i64, length: i64) -> i64
-    requires drop { IsWithin (4 * 10 ^ 10) drop }
-    requires length { IsBetween (pos 10_000) length (pos (10 ^ 11)) }
+    requires drop { IsFall drop }
+    requires length { IsConduitLength length }
     ensures value { result ≡ slope_of drop length }
     ensures range { IsBetween (pos 0) result (pos (2 * 10 ^ 9)) }
 {
@@ -45,7 +45,7 @@ fn slope(drop: i64, length: i64) -> i64
 fn speed(radius: i64, slope6: i64, n6: i64) -> i64
     requires radius { IsBetween (pos 0) radius (pos (10 ^ 9)) }
     requires slope { IsBetween (pos 0) slope6 (pos (2 * 10 ^ 9)) }
-    requires roughness { IsBetween (pos 1_000) n6 (pos (10 ^ 6)) }
+    requires roughness { IsRoughness n6 }
     ensures value { result ≡ speed_of radius slope6 n6 }
     ensures range { IsBetween (pos 0) result (pos (10 ^ 15)) }
 {
@@ -79,9 +79,9 @@ impl Table {
     ///
     /// Source: Manning's formula, in whole numbers by this project's profile.
     pub fn normal_flow(&self, y: i64, n6: i64, drop: i64, length: i64) -> i128
-        requires roughness { IsBetween (pos 1_000) n6 (pos (10 ^ 6)) }
-        requires drop { IsWithin (4 * 10 ^ 10) drop }
-        requires length { IsBetween (pos 10_000) length (pos (10 ^ 11)) }
+        requires roughness { IsRoughness n6 }
+        requires drop { IsFall drop }
+        requires length { IsConduitLength length }
         ensures value { result ≡ normal_flow_of self.now y n6 drop length }
         ensures range { IsBetween (pos 0) result (pos (10 ^ 24)) }
     {
@@ -90,7 +90,7 @@ impl Table {
 
     // The uniform flow at a depth, in cm³/s.
     fn uniform(&self, y: i64, n6: i64, slope6: i64) -> i128
-        requires roughness { IsBetween (pos 1_000) n6 (pos (10 ^ 6)) }
+        requires roughness { IsRoughness n6 }
         requires slope { IsBetween (pos 0) slope6 (pos (2 * 10 ^ 9)) }
         ensures value { result ≡ uniform_of self.now y n6 slope6 }
         ensures range { IsBetween (pos 0) result (pos (10 ^ 24)) }
@@ -141,9 +141,9 @@ impl Table {
     ///
     /// Source: Manning's formula, on the grid of this project's profile.
     pub fn normal(&self, q: i64, n6: i64, drop: i64, length: i64) -> i64
-        requires roughness { IsBetween (pos 1_000) n6 (pos (10 ^ 6)) }
-        requires drop { IsWithin (4 * 10 ^ 10) drop }
-        requires length { IsBetween (pos 10_000) length (pos (10 ^ 11)) }
+        requires roughness { IsRoughness n6 }
+        requires drop { IsFall drop }
+        requires length { IsConduitLength length }
         ensures value { result ≡ normal_of self.now q n6 drop length }
         ensures range { IsBetween (pos 0) result (full_height self.now) }
     {
@@ -162,7 +162,7 @@ impl Table {
 
     // Whether uniform flow at grid height `i` is at least `q`.
     fn is_carried(&self, q: i64, n6: i64, slope6: i64, i: usize) -> bool
-        requires roughness { IsBetween (pos 1_000) n6 (pos (10 ^ 6)) }
+        requires roughness { IsRoughness n6 }
         requires slope { IsBetween (pos 0) slope6 (pos (2 * 10 ^ 9)) }
         requires place { i ≤ 200 }
         ensures { result ≡ carried_at self.now q n6 slope6 i }

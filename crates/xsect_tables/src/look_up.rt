@@ -1,7 +1,7 @@
 // Look-ups of a row at a depth.
 ghost use Rattle.std.specs.Prelude.{◌≡◌, ℕ, ◌+◌, ◌*◌, ◌/◌, ◌<◌, ◌≤◌, ◌^◌, ℤ, pos};
 ghost use Rattle.std.specs.Int.RustNames.{unsigned_abs};
-ghost use Rattle.fixed_num.specs.Ranges.{IsBetween};
+ghost use Rattle.fixed_num.specs.Ranges.{IsBetween, IsFullHeight};
 ghost use Rattle.xsect_tables.specs.SectionTable.{entry, IsGrid};
 ghost use Rattle.xsect_tables.specs.LookUps.{row_at as row_value, strip_at as strip_of};
 
@@ -35,7 +35,7 @@ fn strip_at(heights: &[i64; 201], y: i64) -> usize
 // How many 200th parts of the full height a depth holds.
 fn part_of(y: i64, full: i64) -> usize
     requires depth { IsBetween (pos 0) y (pos (10 ^ 9)) }
-    requires full { IsBetween (pos 1_000) full (pos (10 ^ 9)) }
+    requires full { IsFullHeight full }
     ensures { result ≡ 200 * unsigned_abs y / unsigned_abs full }
 {
     (200 * y.unsigned_abs() / full.unsigned_abs()) as usize

@@ -1,6 +1,6 @@
 // The rows of a table, each from the section.
 ghost use Rattle.std.specs.Prelude.{◌≡◌, ℕ, ◌+◌, ◌*◌, ◌^◌, ◌<◌, ◌≤◌, ℤ, pos};
-ghost use Rattle.fixed_num.specs.Ranges.{IsBetween, IsWithin};
+ghost use Rattle.fixed_num.specs.Ranges.{IsWithin, IsBetween, IsFullHeight};
 ghost use Rattle.xsect_tables.specs.Sections.{IsSection, IsRectOpen, width_at as section_width};
 ghost use Rattle.xsect_tables.specs.SectionTable.{row_of, grid_height as height_of_grid, grid_width as width_of_grid, grid_area, grid_perimeter, strip_area as area_of_strip, strip_sides as sides_of_strip, sides_of};
 
@@ -9,7 +9,7 @@ use net_types::{Section, Shape};
 
 // Grid height `i` of a full height, in µm.
 fn grid_height(full: i64, i: usize) -> i64
-    requires full { IsBetween (pos 1_000) full (pos (10 ^ 9)) }
+    requires full { IsFullHeight full }
     requires place { i ≤ 200 }
     ensures value { result ≡ height_of_grid full i }
     ensures range { IsBetween (pos 0) result (pos (10 ^ 9)) }
@@ -71,7 +71,7 @@ fn sides(rise: i64, spread: i64) -> i64
 
 // The grid heights.
 pub(crate) fn heights(full: i64) -> [i64; 201]
-    requires { IsBetween (pos 1_000) full (pos (10 ^ 9)) }
+    requires { IsFullHeight full }
     ensures { result ≡ row_of (height_of_grid full) }
 {
     let mut row = [0; 201];

@@ -1,6 +1,6 @@
 // The table of a section.
 ghost use Rattle.std.specs.Prelude.{◌≡◌, ◌≤◌, ◌^◌, ℤ, pos, ◌*ℤ◌, ◌≤ℤ◌};
-ghost use Rattle.fixed_num.specs.Ranges.{IsBetween};
+ghost use Rattle.fixed_num.specs.Ranges.{IsBetween, IsFullHeight, AreBarrels};
 ghost use Rattle.xsect_tables.specs.Sections.{IsSection, IsRectOpen, is_closed as shape_is_closed};
 ghost use Rattle.xsect_tables.specs.SectionTable.{entry, table_of, IsTable, full_height as height_of_table, full_area as area_of_table};
 ghost use Rattle.xsect_tables.specs.LookUps.{area_of, width_of, perimeter_of};
@@ -56,7 +56,7 @@ impl Table {
     /// The full height, in µm.
     pub fn full_height(&self) -> i64
         ensures value { result ≡ height_of_table self.now }
-        ensures range { IsBetween (pos 1_000) result (pos (10 ^ 9)) }
+        ensures range { IsFullHeight result }
     {
         self.heights[200]
     }
@@ -64,7 +64,7 @@ impl Table {
     /// The number of barrels.
     pub fn barrels(&self) -> i64
         ensures value { result ≡ self.now.barrels }
-        ensures range { IsBetween (pos 1) result (pos 100) }
+        ensures range { AreBarrels result }
     {
         self.barrels
     }

@@ -1,8 +1,7 @@
-use Rattle.std.proofs.Common.{pos}
 use Rattle.std.proofs.lemmas.Int.{to_z-of_z}
-use Rattle.fixed_num.specs.Ranges.{IsBetween}
 use Rattle.fixed_num.proofs.Bounds.{within_sub, within_between, fits64, fits128}
 use Rattle.conduit_flow.specs.Momentum.{momentum_flow_of}
+use Rattle.conduit_flow.proofs.RangeLemmas.{step-between}
 use Rattle.conduit_flow.proofs.momentum.momentum_flow.Goals as goal
 
 pub returns-clause-value : goal.returns-clause-value
@@ -12,8 +11,7 @@ returns-clause-value c =
     let radius = fits64 (within_between c.requires.middle.radius) tt in
     let length = fits64 (within_between c.requires.conduit.length) tt in
     let n6 = fits64 (within_between c.requires.conduit.n6) tt in
-    let step : IsBetween (pos 0) c.args.fixed.now.dt (pos 3_600_000) = record { from = c.requires.fixed.length.least; to = c.requires.fixed.length.most } in
-    let dt = fits64 (within_between step) tt in
+    let dt = fits64 (within_between (step-between c.requires.fixed.length)) tt in
     let fall = fits64 (within_sub c.requires.ends.surface1 c.requires.ends.surface2) tt in
     let p = simp (to_z-of_z, area, fits64 c.requires.ends.surface1 tt, fits64 c.requires.ends.surface2 tt, fall, dt, length) at c.pressure-pressure.ensures.value in
     let v = simp (to_z-of_z, c.ranges.last, area) at c.velocity-velocity.ensures.value in

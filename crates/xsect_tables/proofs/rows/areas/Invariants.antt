@@ -1,7 +1,7 @@
 use Rattle.std.proofs.Common.{◌≡◌, ◌+◌, ◌*◌, ◌^◌, pos}
 use Rattle.fixed_num.specs.Ranges.{IsBetween}
 use Rattle.xsect_tables.specs.SectionTable.{grid_area, strip_area as area_of_strip}
-use Rattle.xsect_tables.specs.Sums.{sum_below}
+use Rattle.fixed_num.specs.Sums.{sum_below}
 use Rattle.xsect_tables.proofs.RowLemmas.{Filled}
 use Rattle.xsect_tables.proofs.rows.areas.Given as goal
 

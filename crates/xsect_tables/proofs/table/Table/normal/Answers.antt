@@ -2,7 +2,7 @@ use Rattle.std.proofs.Common.{◌≡◌, ℕ, FitsSigned, rules, sym, subst, ap,
 use Rattle.std.specs.Int.{w64}
 use Rattle.std.proofs.lemmas.Int.{to_z-of_z}
 use Rattle.xsect_tables.specs.SectionTable.{entry}
-use Rattle.xsect_tables.specs.Sums.{first_that}
+use Rattle.xsect_tables.specs.FirstPlaces.{first_that}
 use Rattle.xsect_tables.specs.NormalFlow.{normal_of, slope_of, is_carried as carried_at}
 use Rattle.xsect_tables.proofs.FirstLemmas.{first_is}
 use Rattle.xsect_tables.proofs.table.Table.normal.Goals as goal
