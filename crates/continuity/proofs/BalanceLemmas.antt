@@ -11,15 +11,17 @@ use Rattle.node_update.specs.NodeUpdate.{net_of, gain_of, volume_of}
 use Rattle.node_update.specs.declared.node_law.HeadRule.{HeadRule as Rule}
 use Rattle.node_update.specs.declared.node_law.HeadRule.TheVariants.{Junction as JunctionRule, FixedOutfall}
 use Rattle.node_update.proofs.UpdateLemmas.{dry_flood, dry_volume}
-use Rattle.trial_model.specs.Fits.{number, node_at}
+use Rattle.trial_model.specs.Fits.{node_fixed_at}
+use Rattle.fixed_num.specs.Lists.{number}
 use Rattle.trial_model.specs.Trial.{SumsOf, inflow_of, outflow_of}
 use Rattle.trial_model.specs.declared.nets.Nets.{Nets}
 use Rattle.trial_model.proofs.SumLemmas.{all_in_all_out}
 use Rattle.continuity.specs.Account.{laterals_at, gain_at, flood_at, change_at, left_by, error_by, outfall_at, error_at, link_change, IsAccount, account_of, Balances}
 use Rattle.continuity.specs.Parts.{node_part, link_part}
 use Rattle.continuity.specs.StepOf.{IsStepOf}
-use Rattle.continuity.specs.Sums.{sum_of, plus_of, total_of}
-use Rattle.continuity.proofs.SumLemmas.{sum_same, sum_zero, sum_plus, sum_minus, sum_neg, sum_pos, sum_times}
+use Rattle.continuity.specs.Sums.{plus_of, total_of}
+use Rattle.fixed_num.specs.Sums.{sum_below}
+use Rattle.fixed_num.proofs.SignedSums.{sum_same, sum_zero, sum_plus, sum_minus, sum_neg, sum_pos, sum_times}
 
 -- ---- the account is the sum of the parts
 with_none : (x y : ℤ) → y ≡ pos 0 → x +ℤ y ≡ x
@@ -40,11 +42,11 @@ parts_are h before after ms =
     let links = (law_of h).links in
     let none = sum_zero links in
     same_account _ _ _ _ _ _ _ _ _ _
-    (with_none (sum_of (λ n. int_div ms (pos 2) *ℤ laterals_at before after n) nodes) (sum_of (λ _. pos 0) links) none ∙ sum_times (int_div ms (pos 2)) (laterals_at before after) nodes)
-    (with_none (sum_of (outfall_at h after) nodes) (sum_of (λ _. pos 0) links) none)
-    (with_none (sum_of (flood_at h after) nodes) (sum_of (λ _. pos 0) links) none)
+    (with_none (sum_below (λ n. int_div ms (pos 2) *ℤ laterals_at before after n) nodes) (sum_below (λ _. pos 0) links) none ∙ sum_times (int_div ms (pos 2)) (laterals_at before after) nodes)
+    (with_none (sum_below (outfall_at h after) nodes) (sum_below (λ _. pos 0) links) none)
+    (with_none (sum_below (flood_at h after) nodes) (sum_below (λ _. pos 0) links) none)
     refl
-    (less (sum_of (error_at h before after) nodes) (sum_of (λ l. neg_ℤ (link_change h before after l)) links) (sum_of (link_change h before after) links) (sum_neg (link_change h before after) links))
+    (less (sum_below (error_at h before after) nodes) (sum_below (λ l. neg_ℤ (link_change h before after l)) links) (sum_below (link_change h before after) links) (sum_neg (link_change h before after) links))
 
 pub account_is : (h : Hydraulics) (before after : Nets) (ms : ℤ) → IsAccount h before after ms (account_of h before after ms)
 unfolding account_of
@@ -63,10 +65,10 @@ node_parts : (h : Hydraulics) (before after : Nets) (n : ℕ) → outfall_at h a
 node_parts h before after n =
     let law = node_law_at h n in
     all_of law.rule (gain_at after n) (flood_at h after n) (change_at h before after n)
-    (λ e. dry_flood law (node_at after.nodes n) (number after.inflows n) (number after.outflows n) (number after.areas n) (number after.read_heads n) e)
+    (λ e. dry_flood law (node_fixed_at after.nodes n) (number after.inflows n) (number after.outflows n) (number after.areas n) (number after.read_heads n) e)
     (λ e. still (volume_of law (number after.heads n)) (volume_of law (number before.heads n)) (dry_volume law (number after.heads n) e) (dry_volume law (number before.heads n) e))
 
-four_sums : (a b c d : ℕ → ℤ) (n : ℕ) → sum_of (λ k. a k +ℤ b k +ℤ c k +ℤ d k) n ≡ sum_of a n +ℤ sum_of b n +ℤ sum_of c n +ℤ sum_of d n
+four_sums : (a b c d : ℕ → ℤ) (n : ℕ) → sum_below (λ k. a k +ℤ b k +ℤ c k +ℤ d k) n ≡ sum_below a n +ℤ sum_below b n +ℤ sum_below c n +ℤ sum_below d n
 four_sums a b c d n =
     let e1 = sum_plus (λ k. a k +ℤ b k +ℤ c k) d n in
     let e2 = sum_plus (λ k. a k +ℤ b k) c n in
@@ -78,7 +80,7 @@ abbrev net_at : Nets → ℕ → ℤ
 net_at nets n = number nets.inflows n -ℤ number nets.outflows n
 
 -- in a state whose inflows and outflows are the sums of its flows, links give all nodes as much as they take
-links_cancel : (h : Hydraulics) → IsGood h → (nets : Nets) → SumsOf (law_of h) nets → sum_of (net_at nets) (law_of h).nodes ≡ pos 0
+links_cancel : (h : Hydraulics) → IsGood h → (nets : Nets) → SumsOf (law_of h) nets → sum_below (net_at nets) (law_of h).nodes ≡ pos 0
 links_cancel h good nets sums =
     let nodes = (law_of h).nodes in
     let ins = sum_same (number nets.inflows) (λ n. pos (inflow_of (law_of h) (number nets.flows) n)) nodes sums.inflows ∙ sum_pos (inflow_of (law_of h) (number nets.flows)) nodes in
@@ -97,20 +99,20 @@ gain_is : (h : Hydraulics) (before after : Nets) (ms : ℤ) → IsStepOf h befor
 unfolding gain_of net_of
 gain_is h before after ms step n inside =
     let s = step.each n inside in
-    let old = node_at before.nodes n in
-    let new = node_at after.nodes n in
+    let old = node_fixed_at before.nodes n in
+    let new = node_fixed_at after.nodes n in
     rw (s.length, s.net)
     (ap (λ (z : ℤ). int_div ms (pos 2) *ℤ z)
     (regroup old.lateral (number before.inflows n) (number before.outflows n) new.lateral (number after.inflows n) (number after.outflows n)))
 
-three_sums : (a b c : ℕ → ℤ) (n : ℕ) → sum_of b n ≡ pos 0 → sum_of c n ≡ pos 0 → sum_of (λ k. a k +ℤ b k +ℤ c k) n ≡ sum_of a n
+three_sums : (a b c : ℕ → ℤ) (n : ℕ) → sum_below b n ≡ pos 0 → sum_below c n ≡ pos 0 → sum_below (λ k. a k +ℤ b k +ℤ c k) n ≡ sum_below a n
 three_sums a b c n e f =
     let e1 = sum_plus (λ k. a k +ℤ b k) c n in
     let e2 = sum_plus a b n in
     omega (arith, ints, e1, e2, e, f)
 
 all_gains : (h : Hydraulics) → IsGood h → (before after : Nets) (ms : ℤ) → SumsOf (law_of h) before → SumsOf (law_of h) after → IsStepOf h before after ms
-    → sum_of (gain_at after) (law_of h).nodes ≡ int_div ms (pos 2) *ℤ sum_of (laterals_at before after) (law_of h).nodes
+    → sum_below (gain_at after) (law_of h).nodes ≡ int_div ms (pos 2) *ℤ sum_below (laterals_at before after) (law_of h).nodes
 all_gains h good before after ms sums_before sums_after step =
     let nodes = (law_of h).nodes in
     let half = int_div ms (pos 2) in

@@ -7,7 +7,7 @@ use Rattle.link_eval.specs.LawGood.{law_good}
 use Rattle.link_eval.specs.declared.hydraulics.Hydraulics.{Hydraulics}
 use Rattle.node_update.specs.NodeLaws.{IsNodeLaw}
 use Rattle.node_update.specs.NodeUpdate.{IsNodeFixed}
-use Rattle.phase_law.specs.Ranges.{HeadInRange, NodeInRange}
+use Rattle.phase_law.specs.Ranges.{HeadInRange, NodeFixedInRange}
 use Rattle.phase_law.specs.declared.values.NodeFixed.{NodeFixed}
 
 pub nodes_is : (h : Hydraulics) → (law_of h).nodes ≡ length h.nodes
@@ -22,7 +22,7 @@ pub head_in : (h : Hydraulics) {head : ℤ} → HeadInRange (law_of h) head → 
 unfolding law_of
 head_in h i = record { within = i.within }
 
-pub fixed_in : (h : Hydraulics) {fixed : NodeFixed} → NodeInRange (law_of h) fixed → IsNodeFixed fixed
+pub fixed_in : (h : Hydraulics) {fixed : NodeFixed} → NodeFixedInRange (law_of h) fixed → IsNodeFixed fixed
 unfolding law_of
 fixed_in h i = record {
   head = record { within = i.head.within };

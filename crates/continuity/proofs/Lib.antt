@@ -1,4 +1,3 @@
-pub mod SumLemmas
 pub mod TotalLemmas
 pub mod LawLemmas
 pub mod NodeLemmas

@@ -19,7 +19,8 @@ use Rattle.node_update.proofs.GainLemmas.{half_within, inflow_between, outflow_b
 use Rattle.node_update.proofs.UpdateLemmas.{flood_between, flood_most, dry_flood, volume_within}
 use Rattle.phase_law.specs.Ranges.{SumsInRange}
 use Rattle.phase_law.specs.declared.values.NodeFixed.{NodeFixed}
-use Rattle.trial_model.specs.Fits.{Fits, HeadsFit, number}
+use Rattle.trial_model.specs.Fits.{Fits, HeadsFit}
+use Rattle.fixed_num.specs.Lists.{number}
 use Rattle.trial_model.specs.declared.nets.Nets.{Nets}
 use Rattle.trial_model.proofs.LoopLemmas.{number_same, number_other}
 use Rattle.continuity.specs.Account.{gain_at, flood_at, floods_of}

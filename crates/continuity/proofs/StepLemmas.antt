@@ -8,7 +8,8 @@ use Rattle.node_update.specs.declared.node_law.HeadRule.TheVariants.{Junction as
 use Rattle.node_update.proofs.UpdateLemmas.{next_place}
 use Rattle.phase_law.specs.Law.{Law}
 use Rattle.phase_law.specs.declared.values.NodeFixed.{NodeFixed}
-use Rattle.trial_model.specs.Fits.{number, node_at}
+use Rattle.trial_model.specs.Fits.{node_fixed_at}
+use Rattle.fixed_num.specs.Lists.{number}
 use Rattle.trial_model.specs.RoutingStep.{trials}
 use Rattle.trial_model.specs.Trial.{trial, with_flows, next_in}
 use Rattle.trial_model.specs.declared.nets.Nets.{Nets}
@@ -28,7 +29,7 @@ trials_nodes law s (suc k) = trial_nodes law (trials law s k) (eqb k 0) ∙ tria
 -- so a step that was opened as one from a state stays one
 pub step_of_trials : (h : Hydraulics) (before opened : Nets) (ms : ℤ) (k : ℕ) → IsStepOf h before opened ms → IsStepOf h before (trials (law_of h) opened k) ms
 step_of_trials h before opened ms k step = record {
-  each = λ n inside. subst (λ (nodes : List NodeFixed). IsFixedOf before ms n (node_at nodes n)) (sym (trials_nodes (law_of h) opened k)) (step.each n inside);
+  each = λ n inside. subst (λ (nodes : List NodeFixed). IsFixedOf before ms n (node_fixed_at nodes n)) (sym (trials_nodes (law_of h) opened k)) (step.each n inside);
 }
 
 -- ---- no junction's head goes above its top
@@ -51,7 +52,7 @@ trial_tops h good s first tops = record {
       let t = with_flows (law_of h) s first in
       let below : number t.read_heads n ≤ℤ (node_law_at h n).top = rw (read_head (law_of h) s first n) (tops.each n inside e) in
       rw (new_head (law_of h) s first n inside)
-      (next_head h good n inside e (node_at t.nodes n) first (number t.inflows n) (number t.outflows n) (number t.areas n) (number t.read_heads n) below);
+      (next_head h good n inside e (node_fixed_at t.nodes n) first (number t.inflows n) (number t.outflows n) (number t.areas n) (number t.read_heads n) below);
 }
 
 pub trials_tops : (h : Hydraulics) → IsGood h → (s : Nets) (k : ℕ) → IsBelowTops h s → IsBelowTops h (trials (law_of h) s k)

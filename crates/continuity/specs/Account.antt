@@ -7,23 +7,23 @@ use Rattle.node_update.specs.NodeUpdate.{gain_of, flood_of, volume_of}
 use Rattle.node_update.specs.declared.node_law.HeadRule.{HeadRule as Rule}
 use Rattle.node_update.specs.declared.node_law.HeadRule.TheVariants.{Junction as JunctionRule, FixedOutfall}
 use Rattle.trial_model.specs.declared.nets.Nets.{Nets}
-use Rattle.trial_model.specs.Fits.{number, node_at}
-use Rattle.trial_model.specs.Trial.{list_of}
-use Rattle.continuity.specs.Sums.{sum_of}
+use Rattle.trial_model.specs.Fits.{node_fixed_at}
+use Rattle.fixed_num.specs.Lists.{number, list_of}
+use Rattle.fixed_num.specs.Sums.{sum_below}
 
 -- ---- a node, in the step from one state to another
 -- its old and its new lateral inflow together, in cm³/s
 abbrev pub laterals_at : (before after : Nets) → ℕ → ℤ
-laterals_at before after n = (node_at before.nodes n).lateral +ℤ (node_at after.nodes n).lateral
+laterals_at before after n = (node_fixed_at before.nodes n).lateral +ℤ (node_fixed_at after.nodes n).lateral
 
 -- what comes in, by lateral inflow and by links, in mm³
 abbrev pub gain_at : (after : Nets) → ℕ → ℤ
-gain_at after n = gain_of (node_at after.nodes n) (number after.inflows n) (number after.outflows n)
+gain_at after n = gain_of (node_fixed_at after.nodes n) (number after.inflows n) (number after.outflows n)
 
 -- what floods it
 abbrev pub flood_at : Hydraulics → (after : Nets) → ℕ → ℤ
 flood_at h after n =
-    flood_of (node_law_at h n) (node_at after.nodes n) (number after.inflows n) (number after.outflows n) (number after.areas n) (number after.read_heads n)
+    flood_of (node_law_at h n) (node_fixed_at after.nodes n) (number after.inflows n) (number after.outflows n) (number after.areas n) (number after.read_heads n)
 
 -- how much more it holds than before
 abbrev pub change_at : Hydraulics → (before after : Nets) → ℕ → ℤ
@@ -62,20 +62,20 @@ floods_of h after = list_of (flood_at h after) (law_of h).nodes
 -- outfalls; what flooded; what all nodes and links hold more than before; and the errors of all nodes less what the links hold
 -- more
 pub record IsAccount (h : Hydraulics) (before after : Nets) (ms : ℤ) (a : StepAccount) : Type 0 where
-  pub inflow : a.inflow ≡ int_div ms (pos 2) *ℤ sum_of (laterals_at before after) (law_of h).nodes
-  pub outfall : a.outfall ≡ sum_of (outfall_at h after) (law_of h).nodes
-  pub flooding : a.flooding ≡ sum_of (flood_at h after) (law_of h).nodes
-  pub storage : a.storage ≡ sum_of (change_at h before after) (law_of h).nodes +ℤ sum_of (link_change h before after) (law_of h).links
-  pub error : a.error ≡ sum_of (error_at h before after) (law_of h).nodes -ℤ sum_of (link_change h before after) (law_of h).links
+  pub inflow : a.inflow ≡ int_div ms (pos 2) *ℤ sum_below (laterals_at before after) (law_of h).nodes
+  pub outfall : a.outfall ≡ sum_below (outfall_at h after) (law_of h).nodes
+  pub flooding : a.flooding ≡ sum_below (flood_at h after) (law_of h).nodes
+  pub storage : a.storage ≡ sum_below (change_at h before after) (law_of h).nodes +ℤ sum_below (link_change h before after) (law_of h).links
+  pub error : a.error ≡ sum_below (error_at h before after) (law_of h).nodes -ℤ sum_below (link_change h before after) (law_of h).links
 
 -- the one account that is such
 unfoldable pub account_of : Hydraulics → (before after : Nets) (ms : ℤ) → StepAccount
 account_of h before after ms = record {
-  inflow = int_div ms (pos 2) *ℤ sum_of (laterals_at before after) (law_of h).nodes;
-  outfall = sum_of (outfall_at h after) (law_of h).nodes;
-  flooding = sum_of (flood_at h after) (law_of h).nodes;
-  storage = sum_of (change_at h before after) (law_of h).nodes +ℤ sum_of (link_change h before after) (law_of h).links;
-  error = sum_of (error_at h before after) (law_of h).nodes -ℤ sum_of (link_change h before after) (law_of h).links;
+  inflow = int_div ms (pos 2) *ℤ sum_below (laterals_at before after) (law_of h).nodes;
+  outfall = sum_below (outfall_at h after) (law_of h).nodes;
+  flooding = sum_below (flood_at h after) (law_of h).nodes;
+  storage = sum_below (change_at h before after) (law_of h).nodes +ℤ sum_below (link_change h before after) (law_of h).links;
+  error = sum_below (error_at h before after) (law_of h).nodes -ℤ sum_below (link_change h before after) (law_of h).links;
 }
 
 -- what came in, less what left at outfalls and what flooded, is what is stored and the error

@@ -1,12 +1,8 @@
--- Sums of numbers and of accounts.
-use Rattle.std.specs.Prelude.{ℕ, zero, suc, ℤ, pos, ◌+ℤ◌}
+-- Sums of accounts.
+use Rattle.std.specs.Prelude.{ℕ, ◌+ℤ◌}
 use Rattle.fixed_num.specs.Ranges.{IsWithin}
+use Rattle.fixed_num.specs.Sums.{sum_below}
 use Rattle.net_types.specs.declared.account.StepAccount.{StepAccount}
-
--- f 0 + .. + f (n - 1)
-abbrev pub sum_of : (ℕ → ℤ) → ℕ → ℤ
-sum_of f zero = pos 0
-sum_of f (suc n) = sum_of f n +ℤ f n
 
 -- field by field, the sum of two accounts
 abbrev pub plus_of : (a b : StepAccount) → StepAccount
@@ -21,11 +17,11 @@ plus_of a b = record {
 -- field by field, the sum of the first so many accounts
 unfoldable pub total_of : (ℕ → StepAccount) → ℕ → StepAccount
 total_of f n = record {
-  inflow = sum_of (λ k. (f k).inflow) n;
-  outfall = sum_of (λ k. (f k).outfall) n;
-  flooding = sum_of (λ k. (f k).flooding) n;
-  storage = sum_of (λ k. (f k).storage) n;
-  error = sum_of (λ k. (f k).error) n;
+  inflow = sum_below (λ k. (f k).inflow) n;
+  outfall = sum_below (λ k. (f k).outfall) n;
+  flooding = sum_below (λ k. (f k).flooding) n;
+  storage = sum_below (λ k. (f k).storage) n;
+  error = sum_below (λ k. (f k).error) n;
 }
 
 -- each field of an account is within a bound, in mm³

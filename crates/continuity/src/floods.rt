@@ -2,7 +2,8 @@
 ghost use Rattle.std.specs.Prelude.{◌≡◌, ℕ, ◌^◌, ◌<◌, length, pos};
 ghost use Rattle.fixed_num.specs.Ranges.{IsBetween};
 ghost use Rattle.link_eval.specs.Hydraulics.{law_of};
-ghost use Rattle.trial_model.specs.Fits.{Fits, number};
+ghost use Rattle.trial_model.specs.Fits.{Fits};
+ghost use Rattle.fixed_num.specs.Lists.{number};
 ghost use Rattle.continuity.specs.Account.{flood_at, floods_of};
 
 use link_eval::HydraulicLaw;

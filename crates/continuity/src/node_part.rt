@@ -1,9 +1,8 @@
 // What the nodes add to the account of a step.
 ghost use Rattle.std.specs.Prelude.{◌≡◌, ◌*◌, ◌^◌, ◌<◌, length, pos, ◌+ℤ◌, ◌*ℤ◌, int_div};
-ghost use Rattle.fixed_num.specs.Ranges.{IsWithin};
+ghost use Rattle.fixed_num.specs.Ranges.{IsWithin, IsFlow, IsStepLength};
 ghost use Rattle.link_eval.specs.Hydraulics.{law_of};
-ghost use Rattle.phase_law.specs.Ranges.{FlowInRange, LengthInRange};
-ghost use Rattle.trial_model.specs.Fits.{Fits, HeadsFit, node_at};
+ghost use Rattle.trial_model.specs.Fits.{Fits, HeadsFit, node_fixed_at};
 ghost use Rattle.continuity.specs.Account.{floods_of, change_at, gain_at};
 ghost use Rattle.continuity.specs.Parts.{IsStepWithin, node_part, rule_part};
 ghost use Rattle.continuity.specs.StepOf.{IsBelowTops, IsStepOf};
@@ -80,10 +79,10 @@ fn part_of(
 fn lateral_inflow(before: &[NodeFixed], after: &[NodeFixed], ms: i64, node: u32) -> i128
     requires before { node < length before.now }
     requires after { node < length after.now }
-    requires old { FlowInRange (node_at before.now node).lateral }
-    requires new { FlowInRange (node_at after.now node).lateral }
-    requires length { LengthInRange ms }
-    ensures value { result ≡ int_div ms (pos 2) *ℤ ((node_at before.now node).lateral +ℤ (node_at after.now node).lateral) }
+    requires old { IsFlow (node_fixed_at before.now node).lateral }
+    requires new { IsFlow (node_fixed_at after.now node).lateral }
+    requires length { IsStepLength ms }
+    ensures value { result ≡ int_div ms (pos 2) *ℤ ((node_fixed_at before.now node).lateral +ℤ (node_fixed_at after.now node).lateral) }
     ensures range { IsWithin (10 ^ 19) result }
 {
     let laterals = before[node as usize].lateral + after[node as usize].lateral;

@@ -10,7 +10,7 @@ use Rattle.node_update.proofs.GainLemmas.{gain_within, inflow_between, outflow_b
 use Rattle.node_update.proofs.UpdateLemmas.{next_place, flood_between, flood_most, volume_within}
 use Rattle.node_update.specs.NodeUpdate.{gain_of, flood_of, volume_of as node_volume_of}
 use Rattle.node_update.specs.declared.node_law.HeadRule.TheVariants.{Junction as JunctionRule}
-use Rattle.phase_law.specs.Ranges.{HeadInRange, NodeInRange, SumsInRange}
+use Rattle.phase_law.specs.Ranges.{HeadInRange, SumsInRange, NodeFixedInRange}
 use Rattle.phase_law.specs.declared.values.NodeFixed.{NodeFixed}
 use Rattle.xsect_tables.proofs.TableLemmas.{area_between}
 use Rattle.xsect_tables.specs.SectionTable.{SectionTable}
@@ -43,10 +43,10 @@ volume_at-between h l near far g inside = volume_of-between near far (g.links l 
 pub node_volume-within : (h : Hydraulics) (n : ℕ) {head : ℤ} → IsGood h → n < length h.nodes → HeadInRange (law_of h) head → IsWithin (10 ^ 21) (node_volume_of (node_law_at h n) head)
 node_volume-within h n g inside r = volume_within (g.nodes n inside) (head_in h r)
 
-pub node_gain-within : (h : Hydraulics) {fixed : NodeFixed} {i o a : ℤ} → NodeInRange (law_of h) fixed → SumsInRange i o a → IsWithin (10 ^ 24) (gain_of fixed i o)
+pub node_gain-within : (h : Hydraulics) {fixed : NodeFixed} {i o a : ℤ} → NodeFixedInRange (law_of h) fixed → SumsInRange i o a → IsWithin (10 ^ 24) (gain_of fixed i o)
 node_gain-within h f s = gain_within (fixed_in h f) (inflow_between s) (outflow_between s)
 
-pub node_flood-between : (h : Hydraulics) (n : ℕ) {fixed : NodeFixed} {i o a : ℤ} (last : ℤ) → IsGood h → n < length h.nodes → NodeInRange (law_of h) fixed → SumsInRange i o a
+pub node_flood-between : (h : Hydraulics) (n : ℕ) {fixed : NodeFixed} {i o a : ℤ} (last : ℤ) → IsGood h → n < length h.nodes → NodeFixedInRange (law_of h) fixed → SumsInRange i o a
     → IsBetween (pos 0) (flood_of (node_law_at h n) fixed i o a last) (pos (10 ^ 25))
 node_flood-between h n last g inside f s = flood_between last (g.nodes n inside) (fixed_in h f) s
 

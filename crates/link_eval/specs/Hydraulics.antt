@@ -18,7 +18,8 @@ use Rattle.net_types.specs.declared.options.Limiter.TheVariants.{Both}
 use Rattle.net_types.specs.declared.options.Options.{Options}
 use Rattle.net_types.specs.declared.project.Project.{Project}
 use Rattle.node_update.specs.Network.{IsNetwork}
-use Rattle.node_update.specs.NodeLaws.{node_law_of, node_at}
+use Rattle.node_update.specs.NodeLaws.{node_law_of}
+use Rattle.net_types.specs.Records.{node_at}
 use Rattle.node_update.specs.NodeUpdate.{next_of}
 use Rattle.node_update.specs.declared.node_law.HeadRule.TheVariants.{FixedOutfall}
 use Rattle.node_update.specs.declared.node_law.NodeLaw.{NodeLaw}

@@ -10,12 +10,12 @@ use Rattle.conduit_flow.specs.Conduits.{IsConduit, IsConduitTable}
 use Rattle.conduit_flow.specs.Geometry.{depth_of, mean_depth_of, ends_of, middle_of}
 use Rattle.conduit_flow.specs.Limits.{greatest_of, held_of}
 use Rattle.conduit_flow.specs.declared.conduit.ConduitData.{ConduitData}
-use Rattle.fixed_num.specs.Ranges.{IsBetween, IsWithin}
+use Rattle.fixed_num.specs.Ranges.{IsBetween, IsWithin, IsFlow}
 use Rattle.fixed_num.proofs.Bounds.{within_between, within_number, within_neg, within_mul, within_cut}
 use Rattle.node_update.specs.NodeUpdate.{IsNodeFixed}
 use Rattle.node_update.proofs.UpdateLemmas.{next_within}
 use Rattle.phase_law.specs.Laws.{IsLaw}
-use Rattle.phase_law.specs.Ranges.{FlowInRange, HeadInRange, NodeInRange, ShareInRange}
+use Rattle.phase_law.specs.Ranges.{HeadInRange, ShareInRange, NodeFixedInRange}
 use Rattle.phase_law.specs.declared.values.LinkFixed.{LinkFixed}
 use Rattle.phase_law.specs.declared.values.NodeFixed.{NodeFixed}
 use Rattle.phase_law.specs.declared.values.Share.{Share}
@@ -43,10 +43,10 @@ held-within q_max n q h =
     let most = greatest-between q_max n h in
     within_cut q (opposite (greatest_of q_max (pos n)) most.from) (within_neg (within_between most)) (within_between most)
 
-all_barrels : (n : ℕ) {q : ℤ} → IsWithin (10 ^ 12 / n) q → FlowInRange (pos n *ℤ q)
+all_barrels : (n : ℕ) {q : ℤ} → IsWithin (10 ^ 12 / n) q → IsFlow (pos n *ℤ q)
 all_barrels n h = let p = within_mul (within_number n) h in record { within = omega (arith, p.within, mul-div-le (10 ^ 12) n) }
 
-held-flow : (q_max barrels q : ℤ) → pos 0 ≤ℤ q_max → IsBetween (pos 1) barrels (pos 100) → FlowInRange (barrels *ℤ held_of q_max barrels q)
+held-flow : (q_max barrels q : ℤ) → pos 0 ≤ℤ q_max → IsBetween (pos 1) barrels (pos 100) → IsFlow (barrels *ℤ held_of q_max barrels q)
 held-flow q_max (pos n) q h b = all_barrels n (held-within q_max n q h)
 held-flow q_max (negsuc n) q h b = absurd b.from.le
 
@@ -91,7 +91,7 @@ pub head_in : (h : Hydraulics) {head : ℤ} → HeadInRange (law_of h) head → 
 unfolding law_of
 head_in h r = record { within = r.within }
 
-pub fixed_in : (h : Hydraulics) {fixed : NodeFixed} → NodeInRange (law_of h) fixed → IsNodeFixed fixed
+pub fixed_in : (h : Hydraulics) {fixed : NodeFixed} → NodeFixedInRange (law_of h) fixed → IsNodeFixed fixed
 unfolding law_of
 fixed_in h i = record {
   head = head_in h i.head;
@@ -121,7 +121,7 @@ pub head_of_law : (h : Hydraulics) {head : ℤ} → IsWithin (2 * 10 ^ 10) head 
 unfolding law_of
 head_of_law h r = record { within = r.within }
 
-pub fixed_of_law : (h : Hydraulics) {fixed : NodeFixed} → IsNodeFixed fixed → NodeInRange (law_of h) fixed
+pub fixed_of_law : (h : Hydraulics) {fixed : NodeFixed} → IsNodeFixed fixed → NodeFixedInRange (law_of h) fixed
 unfolding law_of
 fixed_of_law h i = record {
   head = record { within = i.head.within };

@@ -1,6 +1,6 @@
 ghost use Rattle.std.specs.Prelude.{◌≡◌, ◌*◌, ◌^◌, ◌<◌, length, pos, IfOk};
 ghost use Rattle.std.specs.List.{All};
-ghost use Rattle.phase_law.specs.Ranges.{LinkInRange, SumsInRange};
+ghost use Rattle.phase_law.specs.Ranges.{SumsInRange, LinkFixedInRange};
 ghost use Rattle.fixed_num.specs.Ranges.{IsWithin};
 ghost use Rattle.node_update.specs.Network.{IsNode, IsLink, HasEnds, AreNetworkOptions};
 ghost use Rattle.node_update.specs.NodeUpdate.{IsNodeFixed};
@@ -54,7 +54,7 @@ fn head(law: &HydraulicLaw, node: u32, first: bool, outflow: i64, last: i64) -> 
 }
 
 fn from_rest() -> LinkFixed
-    ensures { LinkInRange result }
+    ensures { LinkFixedInRange result }
 {
     LinkFixed {
         q_old: 0,

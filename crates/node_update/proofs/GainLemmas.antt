@@ -2,17 +2,17 @@
 use Rattle.std.proofs.Common.{◌≡◌, ℕ, ◌*◌, ◌/◌, ◌^◌, ◌≤◌, ℤ, pos, negsuc, ◌+ℤ◌, ◌-ℤ◌, ◌*ℤ◌, ◌≤ℤ◌, unsigned_abs, refl, arith}
 use Rattle.std.specs.Prelude.{int_div}
 use Rattle.std.proofs.lemmas.Int.{ints}
-use Rattle.fixed_num.specs.Ranges.{IsBetween, IsWithin}
+use Rattle.fixed_num.specs.Ranges.{IsBetween, IsWithin, IsFlow, IsStepLength}
 use Rattle.fixed_num.specs.Rounding.{quo_of}
 use Rattle.fixed_num.proofs.Between.{product_from_zero}
 use Rattle.fixed_num.proofs.Bounds.{within_number, within_up, within_add, within_sub, within_mul, within_between, within_quo, within_quo_by, between_up, between_add, le_number, quo_of-from_zero}
-use Rattle.phase_law.specs.Ranges.{FlowInRange, LengthInRange, SumsInRange}
+use Rattle.phase_law.specs.Ranges.{SumsInRange}
 use Rattle.phase_law.specs.declared.values.NodeFixed.{NodeFixed}
 use Rattle.node_update.specs.NodeLaws.{IsNodeLaw}
 use Rattle.node_update.specs.NodeUpdate.{IsNodeFixed, net_of, gain_of, surface_of, raised_of, excess_of}
 use Rattle.node_update.specs.declared.node_law.NodeLaw.{NodeLaw as Law}
 
-pub flow_within : {flow : ℤ} → FlowInRange flow → IsWithin (10 ^ 12) flow
+pub flow_within : {flow : ℤ} → IsFlow flow → IsWithin (10 ^ 12) flow
 flow_within h = record { within = h.within }
 
 -- the sums that a node gets of its links
@@ -26,13 +26,13 @@ pub area_between : {i o a : ℤ} → SumsInRange i o a → IsBetween (pos 0) a (
 area_between h = record { from = h.area_least; to = h.area_most }
 
 -- half of a step
-pub length_within : {dt : ℤ} → LengthInRange dt → IsWithin 3_600_000 dt
+pub length_within : {dt : ℤ} → IsStepLength dt → IsWithin 3_600_000 dt
 length_within {dt} h = let l = h.least in let m = h.most in record { within = omega (arith, ints) }
 
 half_of : (n : ℕ) → int_div (pos n) (pos 2) ≡ pos (n / 2)
 half_of n = refl
 
-pub half_within : {dt : ℤ} → LengthInRange dt → IsWithin 1_800_000 (int_div dt (pos 2))
+pub half_within : {dt : ℤ} → IsStepLength dt → IsWithin 1_800_000 (int_div dt (pos 2))
 half_within {dt = pos n} h =
     let m = h.most in
     let small : n ≤ 3_600_000 = omega (arith, ints) in

@@ -5,7 +5,8 @@ use Rattle.std.proofs.lemmas.Int.{ints, clamps}
 use Rattle.std.proofs.lemmas.List.{take_more, get_or_default}
 use Rattle.net_types.specs.declared.network.Link.{Link}
 use Rattle.net_types.specs.declared.network.Node.{Node}
-use Rattle.node_update.specs.NodeLaws.{no_node, node_at, link_top, greatest_of, highest_top}
+use Rattle.node_update.specs.NodeLaws.{link_top, greatest_of, highest_top}
+use Rattle.net_types.specs.Records.{no_node, node_at}
 
 max_again : (a b c : ℤ) → int_max a (int_max b c) ≡ int_max (int_max a b) c
 max_again a b c = omega (arith, ints, clamps)

@@ -3,11 +3,10 @@
 use Rattle.std.specs.Prelude.{◌*◌, ◌^◌, Bool, true, if◌then◌else◌, ℤ, pos, ◌+ℤ◌, ◌-ℤ◌, ◌*ℤ◌, int_le, int_lt, int_div}
 use Rattle.std.specs.Int.{int_max}
 use Rattle.std.specs.Int.RustNames.{unsigned_abs}
-use Rattle.fixed_num.specs.Ranges.{IsWithin, cut_of}
+use Rattle.fixed_num.specs.Ranges.{IsWithin, cut_of, IsFlow, IsStepLength}
 use Rattle.fixed_num.specs.Rounding.{quo_of}
 use Rattle.phase_law.specs.declared.values.NodeFixed.{NodeFixed}
 use Rattle.phase_law.specs.declared.values.NodeNext.{NodeNext}
-use Rattle.phase_law.specs.Ranges.{FlowInRange, LengthInRange}
 use Rattle.node_update.specs.declared.node_law.HeadRule.{HeadRule as Rule}
 use Rattle.node_update.specs.declared.node_law.HeadRule.TheVariants.{Junction as JunctionRule, FixedOutfall}
 use Rattle.node_update.specs.declared.node_law.NodeLaw.{NodeLaw as Law}
@@ -16,9 +15,9 @@ use Rattle.node_update.specs.declared.node_law.NodeLaw.{NodeLaw as Law}
 pub record IsNodeFixed (fixed : NodeFixed) : Type 0 where
   pub head : IsWithin (2 * 10 ^ 10) fixed.h_old
   pub net : IsWithin (3 * 10 ^ 16) fixed.net_old
-  pub lateral : FlowInRange fixed.lateral
+  pub lateral : IsFlow fixed.lateral
   pub stage : IsWithin (2 * 10 ^ 10) fixed.stage
-  pub length : LengthInRange fixed.dt
+  pub length : IsStepLength fixed.dt
 
 -- the net inflow at the end of a step, in cm³/s
 unfoldable pub net_of : NodeFixed → (inflow outflow : ℤ) → ℤ

@@ -4,7 +4,8 @@ ghost use Rattle.std.specs.Int.{int_max};
 ghost use Rattle.std.specs.List.{All};
 ghost use Rattle.fixed_num.specs.Ranges.{IsBetween};
 ghost use Rattle.node_update.specs.Network.{IsNetwork, IsConduitKind, HasSection, IsLink};
-ghost use Rattle.node_update.specs.NodeLaws.{node_at, first_offset, second_offset, section_height, end_top, link_top, highest_top};
+ghost use Rattle.node_update.specs.NodeLaws.{first_offset, second_offset, section_height, end_top, link_top, highest_top};
+ghost use Rattle.net_types.specs.Records.{node_at};
 
 use net_types::{Link, LinkKind, Project, Section};
 

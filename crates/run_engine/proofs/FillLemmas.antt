@@ -3,7 +3,7 @@ use Rattle.std.proofs.Common.{◌≡◌, ℕ, ◌+◌, ◌<◌, ◌≤◌, List,
 use Rattle.std.proofs.lemmas.List.{length-set, get_or-set_same, get_or-set_other}
 use Rattle.std.proofs.lemmas.List.FromFn.{fill_by_all}
 use Rattle.std.proofs.Math.Nat.{eq-or-lt_of_le}
-use Rattle.trial_model.specs.Trial.{list_of}
+use Rattle.fixed_num.specs.Lists.{list_of}
 
 -- the first items of a list are given by a function, and the others are the old ones
 pub record Filled {A : Type 0} (f : ℕ → A) (default : A) (old list : List A) (n : ℕ) : Type 0 where

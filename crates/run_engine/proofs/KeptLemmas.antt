@@ -11,7 +11,8 @@ use Rattle.net_types.specs.declared.account.StepAccount.{StepAccount}
 use Rattle.net_types.specs.declared.project.Project.{Project}
 use Rattle.report_writer.specs.declared.counts.RunCounts.{RunCounts}
 use Rattle.summaries.specs.Figures.{Figures}
-use Rattle.trial_model.specs.Fits.{Fits, number}
+use Rattle.trial_model.specs.Fits.{Fits}
+use Rattle.fixed_num.specs.Lists.{number}
 use Rattle.trial_model.specs.Trial.{SumsOf}
 use Rattle.trial_model.specs.declared.nets.Nets.{Nets}
 use Rattle.trial_model.specs.declared.step.StepEnd.{StepEnd}

@@ -4,7 +4,7 @@ use Rattle.std.proofs.lemmas.Int.{ints}
 use Rattle.std.proofs.lemmas.List.{get_or-replicate, length-replicate}
 use Rattle.std.proofs.lemmas.List.Elements.{All-get_or}
 use Rattle.std.proofs.lemmas.List.FromFn.{length-map-range_with_len}
-use Rattle.fixed_num.specs.Ranges.{IsBetween, IsWithin}
+use Rattle.fixed_num.specs.Ranges.{IsBetween, IsWithin, IsFlow, IsStepLength}
 use Rattle.fixed_num.proofs.Bounds.{le_number, within_add, within_between, within_cut, within_max, within_minus, within_number, within_up}
 use Rattle.link_eval.specs.Good.{IsGood}
 use Rattle.link_eval.specs.declared.hydraulics.Hydraulics.{Hydraulics}
@@ -15,16 +15,17 @@ use Rattle.net_types.specs.declared.network.Stage.{Stage}
 use Rattle.net_types.specs.declared.network.Stage.TheVariants.{Free, Normal, Fixed, Tidal, Series}
 use Rattle.net_types.specs.declared.project.Project.{Project}
 use Rattle.node_update.specs.Network.{IsFixedStage, IsNode, IsNodeKind}
-use Rattle.node_update.specs.NodeLaws.{no_node as no_project_node, node_at as node_of}
+use Rattle.net_types.specs.Records.{no_node as no_project_node, node_at as node_of}
 use Rattle.phase_law.specs.Law.{Law}
-use Rattle.phase_law.specs.Ranges.{FlowInRange, HeadInRange, LengthInRange, LinkInRange, NodeInRange, SumsInRange}
+use Rattle.phase_law.specs.Ranges.{HeadInRange, SumsInRange, LinkFixedInRange, NodeFixedInRange}
 use Rattle.phase_law.specs.declared.values.LinkFixed.{LinkFixed}
 use Rattle.phase_law.specs.declared.values.NodeFixed.{NodeFixed}
 use Rattle.time_series.specs.LateralFlow.{lateral_of}
 use Rattle.trial_model.specs.declared.nets.Nets.{Nets}
-use Rattle.trial_model.specs.Fits.{Fits, FlowsFit, number}
+use Rattle.trial_model.specs.Fits.{Fits, FlowsFit}
+use Rattle.fixed_num.specs.Lists.{number, list_of}
 use Rattle.trial_model.specs.Start.{no_link, no_node, resting}
-use Rattle.trial_model.specs.Trial.{list_of, inflow_of, outflow_of, SumsOf}
+use Rattle.trial_model.specs.Trial.{inflow_of, outflow_of, SumsOf}
 use Rattle.trial_model.proofs.FlowLemmas.{flow_sums_most, listed_inflows, listed_outflows, listed_sums}
 use Rattle.trial_model.proofs.RangeLemmas.{listed}
 use Rattle.run_engine.specs.Runnable.{HasInitialDepth, HasInitialFlow, IsRunnable}
@@ -49,7 +50,7 @@ open_within (Outfall stage gated) h i y = within_up (within_max i (level_within 
 open_within (Junction surcharge pond) h i y = within_up (within_add i (within_between y)) tt
 open_within (Storage shape) h i y = absurd h
 
-pub lateral_in : (project : Project) (n : ℕ) → FlowInRange (lateral_of project n)
+pub lateral_in : (project : Project) (n : ℕ) → IsFlow (lateral_of project n)
 unfolding lateral_of
 lateral_in project n = record { within = (within_cut _ (le_number tt) (within_minus (10 ^ 12)) (within_number (10 ^ 12))).within }
 
@@ -66,10 +67,10 @@ module _ {project : Project} (r : IsRunnable project) where
       let node = is_node n inside in
       open_within (node_of project.nodes n).kind node.kind node.invert (All-get_or HasInitialDepth project.nodes n no_project_node inside r.depths)
 
-  opened_flow : (l : ℕ) → l < length project.links → FlowInRange (opening_flow project.links l)
+  opened_flow : (l : ℕ) → l < length project.links → IsFlow (opening_flow project.links l)
   opened_flow l inside = All-get_or HasInitialFlow project.links l no_pipe inside r.flows
 
-  law_flow : (l : ℕ) → l < (project_law project).links → FlowInRange (opening_flow project.links l)
+  law_flow : (l : ℕ) → l < (project_law project).links → IsFlow (opening_flow project.links l)
   law_flow l inside = opened_flow l (omega (arith, law_links project))
 
   pub opening_flows_fit : FlowsFit (project_law project) (list_of (opening_flow project.links) (length project.links))
@@ -77,17 +78,17 @@ module _ {project : Project} (r : IsRunnable project) where
     count = length-map-range_with_len (opening_flow project.links) 0 (length project.links) ∙ sym (law_links project);
     each = λ l inside.
         let within : l < length project.links = omega (arith, law_links project) in
-        subst (λ (q : ℤ). FlowInRange q) (sym (listed (opening_flow project.links) (length project.links) l (pos 0) within)) (opened_flow l within);
+        subst (λ (q : ℤ). IsFlow q) (sym (listed (opening_flow project.links) (length project.links) l (pos 0) within)) (opened_flow l within);
   }
 
 -- ---- a state in which nothing has happened
-no_length : LengthInRange (pos 0)
+no_length : IsStepLength (pos 0)
 no_length = record { least = omega (arith, ints); most = omega (arith, ints); even = omega arith }
 
-no_flow : FlowInRange (pos 0)
+no_flow : IsFlow (pos 0)
 no_flow = record { within = omega arith }
 
-no_link_in : LinkInRange no_link
+no_link_in : LinkFixedInRange no_link
 no_link_in = record {
   flow = no_flow;
   area_least = omega (arith, ints);
@@ -129,7 +130,7 @@ opening_fits project good r =
       };
       flows = record {
         count = length-map-range_with_len flow 0 law.links;
-        each = λ l inside. subst (λ (q : ℤ). FlowInRange q) (sym (listed flow law.links l (pos 0) inside)) (law_flow r l inside);
+        each = λ l inside. subst (λ (q : ℤ). IsFlow q) (sym (listed flow law.links l (pos 0) inside)) (law_flow r l inside);
       };
       sums = record {
         inflow_count = length-map-range_with_len (λ n. pos (inflow_of law flow n)) 0 law.nodes;
@@ -150,12 +151,12 @@ opening_fits project good r =
       };
       links = record {
         count = length-replicate law.links no_link;
-        each = λ l inside. subst (λ (x : LinkFixed). LinkInRange x) (sym (get_or-replicate law.links l no_link no_link inside)) no_link_in;
+        each = λ l inside. subst (λ (x : LinkFixed). LinkFixedInRange x) (sym (get_or-replicate law.links l no_link no_link inside)) no_link_in;
       };
       nodes = record {
         count = length-map-range_with_len (opening_node project) 0 law.nodes;
         each = λ n inside.
-            subst (λ (x : NodeFixed). NodeInRange law x) (sym (listed (opening_node project) law.nodes n no_node inside))
+            subst (λ (x : NodeFixed). NodeFixedInRange law x) (sym (listed (opening_node project) law.nodes n no_node inside))
             (record {
               head = head_in h zero_within;
               net = omega arith;

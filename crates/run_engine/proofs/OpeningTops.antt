@@ -3,7 +3,8 @@ use Rattle.std.proofs.Common.{◌≡◌, ◌∙◌, ℕ, ◌<◌, ℤ, pos, ◌�
 use Rattle.continuity.specs.StepOf.{IsBelowTops}
 use Rattle.link_eval.specs.Hydraulics.{hydraulics_of, node_law_at}
 use Rattle.net_types.specs.declared.project.Project.{Project}
-use Rattle.node_update.specs.NodeLaws.{node_law_of, node_at as node_of}
+use Rattle.node_update.specs.NodeLaws.{node_law_of}
+use Rattle.net_types.specs.Records.{node_at as node_of}
 use Rattle.node_update.specs.declared.node_law.HeadRule.TheVariants.{Junction as JunctionRule}
 use Rattle.node_update.specs.declared.node_law.NodeLaw.{NodeLaw}
 use Rattle.trial_model.proofs.RangeLemmas.{listed}

@@ -2,20 +2,20 @@
 use Rattle.std.proofs.Common.{◌≡◌, ◌∙◌, ℕ, ◌*◌, ◌^◌, ◌<◌, ℤ, pos, ◌+ℤ◌, ◌-ℤ◌, ◌≤ℤ◌, List, length, refl, sym, subst, ap, arith}
 use Rattle.std.proofs.lemmas.Int.{ints}
 use Rattle.std.proofs.lemmas.List.FromFn.{length-map-range_with_len}
-use Rattle.fixed_num.specs.Ranges.{IsBetween, IsWithin}
+use Rattle.fixed_num.specs.Ranges.{IsBetween, IsWithin, IsFlow, IsStepLength}
 use Rattle.link_eval.specs.Good.{IsGood}
 use Rattle.link_eval.specs.declared.hydraulics.Hydraulics.{Hydraulics}
 use Rattle.link_eval.specs.Hydraulics.{hydraulics_of, law_of}
 use Rattle.link_eval.proofs.ValueLemmas.{mid_area_at-between}
 use Rattle.net_types.specs.declared.project.Project.{Project}
 use Rattle.phase_law.specs.Law.{Law}
-use Rattle.phase_law.specs.Ranges.{FlowInRange, LengthInRange, LinkInRange, NodeInRange}
+use Rattle.phase_law.specs.Ranges.{LinkFixedInRange, NodeFixedInRange}
 use Rattle.phase_law.specs.declared.values.LinkFixed.{LinkFixed}
 use Rattle.phase_law.specs.declared.values.NodeFixed.{NodeFixed}
 use Rattle.trial_model.specs.declared.nets.Nets.{Nets}
-use Rattle.trial_model.specs.Fits.{Fits, NodesFit, SumsFit, node_at, number}
+use Rattle.trial_model.specs.Fits.{Fits, NodesFit, SumsFit, node_fixed_at}
+use Rattle.fixed_num.specs.Lists.{number, list_of}
 use Rattle.trial_model.specs.Start.{no_link, no_node}
-use Rattle.trial_model.specs.Trial.{list_of}
 use Rattle.trial_model.proofs.RangeLemmas.{listed}
 use Rattle.run_engine.specs.Amounts.{AreAmounts, HaveLaterals}
 use Rattle.run_engine.specs.Runnable.{IsRunnable}
@@ -24,11 +24,11 @@ use Rattle.run_engine.proofs.LawLemmas.{head_in, law_nodes, link_in}
 use Rattle.run_engine.proofs.OpeningLemmas.{lateral_in, stage_in}
 
 -- ---- the net inflow of a node
-pub net_within : {lateral inflow outflow : ℤ} → FlowInRange lateral → IsBetween (pos 0) inflow (pos (2 * 10 ^ 16)) → IsBetween (pos 0) outflow (pos (2 * 10 ^ 16))
+pub net_within : {lateral inflow outflow : ℤ} → IsFlow lateral → IsBetween (pos 0) inflow (pos (2 * 10 ^ 16)) → IsBetween (pos 0) outflow (pos (2 * 10 ^ 16))
     → IsWithin (3 * 10 ^ 16) (lateral +ℤ inflow -ℤ outflow)
 net_within l i o = record { within = omega (arith, ints, l.within, i.from, i.to, o.from, o.to) }
 
-pub gross_within : {lateral inflow : ℤ} → FlowInRange lateral → IsBetween (pos 0) inflow (pos (2 * 10 ^ 16)) → IsWithin (3 * 10 ^ 16) (lateral +ℤ inflow)
+pub gross_within : {lateral inflow : ℤ} → IsFlow lateral → IsBetween (pos 0) inflow (pos (2 * 10 ^ 16)) → IsWithin (3 * 10 ^ 16) (lateral +ℤ inflow)
 gross_within l i = record { within = omega (arith, ints, l.within, i.from, i.to) }
 
 -- ---- what a step starts from
@@ -39,7 +39,7 @@ pub same_node : {h h2 net net2 lateral lateral2 stage stage2 dt dt2 : ℤ} → h
 same_node e1 e2 e3 e4 e5 = cc
 
 -- it depends on the lateral inflow of the state alone
-pub same_start : (project : Project) (heads inflows outflows : List ℤ) (a b : List NodeFixed) (dt : ℤ) (n : ℕ) → node_at a n ≡ node_at b n
+pub same_start : (project : Project) (heads inflows outflows : List ℤ) (a b : List NodeFixed) (dt : ℤ) (n : ℕ) → node_fixed_at a n ≡ node_fixed_at b n
     → node_start project heads inflows outflows a dt n ≡ node_start project heads inflows outflows b dt n
 same_start project heads inflows outflows a b dt n e =
     same_node refl (ap (λ (x : NodeFixed). x.lateral +ℤ number inflows n -ℤ number outflows n) e) refl refl refl
@@ -85,8 +85,8 @@ prepared_is project dt s {h} {links} {nodes} same e1 e2 =
 
 -- in range
 module _ {project : Project} (good : IsGood (hydraulics_of project)) (r : IsRunnable project) {s : Nets} (fits : Fits (project_law project) s)
-    {dt : ℤ} (length_in : LengthInRange dt) where
-  link_ready : (l : ℕ) → l < (project_law project).links → LinkInRange (prepared_link project s dt l)
+    {dt : ℤ} (length_in : IsStepLength dt) where
+  link_ready : (l : ℕ) → l < (project_law project).links → LinkFixedInRange (prepared_link project s dt l)
   link_ready l inside =
       let area = mid_area_at-between (hydraulics_of project) l _ _ good (link_in (hydraulics_of project) l inside) in
       record {
@@ -101,7 +101,7 @@ module _ {project : Project} (good : IsGood (hydraulics_of project)) (r : IsRunn
       area_fits : {a : ℤ} → IsBetween (pos 0) a (pos (10 ^ 11)) → a ≤ℤ pos (10 ^ 12)
       area_fits b = omega (arith, ints, b.to)
 
-  node_ready : (n : ℕ) → n < (project_law project).nodes → NodeInRange (project_law project) (prepared_node project s dt n)
+  node_ready : (n : ℕ) → n < (project_law project).nodes → NodeFixedInRange (project_law project) (prepared_node project s dt n)
   node_ready n inside =
       let sums = fits.sums.each n inside in
       record {
@@ -123,10 +123,10 @@ module _ {project : Project} (good : IsGood (hydraulics_of project)) (r : IsRunn
         read_heads = fits.read_heads;
         links = record {
           count = length-map-range_with_len (prepared_link project s dt) 0 law.links;
-          each = λ l inside. subst (λ (x : LinkFixed). LinkInRange x) (sym (listed (prepared_link project s dt) law.links l no_link inside)) (link_ready l inside);
+          each = λ l inside. subst (λ (x : LinkFixed). LinkFixedInRange x) (sym (listed (prepared_link project s dt) law.links l no_link inside)) (link_ready l inside);
         };
         nodes = record {
           count = length-map-range_with_len (prepared_node project s dt) 0 law.nodes;
-          each = λ n inside. subst (λ (x : NodeFixed). NodeInRange law x) (sym (listed (prepared_node project s dt) law.nodes n no_node inside)) (node_ready n inside);
+          each = λ n inside. subst (λ (x : NodeFixed). NodeFixedInRange law x) (sym (listed (prepared_node project s dt) law.nodes n no_node inside)) (node_ready n inside);
         };
       }

@@ -8,7 +8,8 @@ use Rattle.net_types.specs.declared.network.NodeKind.TheVariants.{Junction, Outf
 use Rattle.net_types.specs.declared.options.Options.{Options}
 use Rattle.net_types.specs.declared.project.Project.{Project}
 use Rattle.node_update.specs.Network.{IsNode, IsNodeKind}
-use Rattle.node_update.specs.NodeLaws.{highest_top, kind_law, no_node, node_at, node_law_of}
+use Rattle.node_update.specs.NodeLaws.{highest_top, kind_law, node_law_of}
+use Rattle.net_types.specs.Records.{no_node, node_at}
 use Rattle.node_update.specs.declared.node_law.HeadRule.TheVariants.{Junction as JunctionRule}
 use Rattle.run_engine.specs.States.{kind_head, opening_head}
 

@@ -11,7 +11,8 @@ use Rattle.node_update.specs.NodeUpdate.{net_of}
 use Rattle.node_update.specs.declared.node_law.HeadRule.TheVariants.{Junction as JunctionRule}
 use Rattle.phase_law.specs.Law.{Law}
 use Rattle.phase_law.specs.declared.values.NodeFixed.{NodeFixed}
-use Rattle.trial_model.specs.Fits.{Fits, number, node_at}
+use Rattle.trial_model.specs.Fits.{Fits, node_fixed_at}
+use Rattle.fixed_num.specs.Lists.{number}
 use Rattle.trial_model.specs.RoutingStep.{end_of, trials}
 use Rattle.trial_model.specs.Start.{no_node}
 use Rattle.trial_model.specs.Trial.{next_in, trial, with_flows}
@@ -43,7 +44,7 @@ unfolding trials
 trials_nodes law s zero = refl
 trials_nodes law s (suc k) = trial_nodes law (trials law s k) (eqb k 0) ∙ trials_nodes law s k
 
-prepared_at : (project : Project) (dt : ℤ) (s : Nets) (n : ℕ) → n < (project_law project).nodes → node_at (prepared project dt s).nodes n ≡ prepared_node project s dt n
+prepared_at : (project : Project) (dt : ℤ) (s : Nets) (n : ℕ) → n < (project_law project).nodes → node_fixed_at (prepared project dt s).nodes n ≡ prepared_node project s dt n
 unfolding prepared
 prepared_at project dt s n h = get_or-map-range_with_len (prepared_node project s dt) 0 (project_law project).nodes n n no_node h (omega arith)
 
@@ -59,9 +60,9 @@ step_is project dt s =
     let made = (step_end project dt s).trials in
     record {
       each = λ n h.
-          let here : node_at (trials law (prepared project dt s) made).nodes n ≡ prepared_node project s dt n =
-          ap (λ nodes. node_at nodes n) (trials_nodes law (prepared project dt s) made) ∙ prepared_at project dt s n h in
-          subst (IsFixedOf s dt n) (sym here) (record { head = refl; net = net_is (node_at s.nodes n) (number s.inflows n) (number s.outflows n); length = refl });
+          let here : node_fixed_at (trials law (prepared project dt s) made).nodes n ≡ prepared_node project s dt n =
+          ap (λ nodes. node_fixed_at nodes n) (trials_nodes law (prepared project dt s) made) ∙ prepared_at project dt s n h in
+          subst (IsFixedOf s dt n) (sym here) (record { head = refl; net = net_is (node_fixed_at s.nodes n) (number s.inflows n) (number s.outflows n); length = refl });
     }
 
 -- ---- no junction goes above its top
@@ -85,7 +86,7 @@ trial_tops {h} good s first below = record {
       let top = (node_law_at h n).top in
       let last : number t.read_heads n ≤ℤ top = subst (λ heads. number heads n ≤ℤ top) (sym (read_is (law_of h) s first)) (below.each n inside junction) in
       subst (λ (x : ℤ). x ≤ℤ top) (sym (trial_head (law_of h) s first n inside))
-      (next_top h good n inside junction (node_at t.nodes n) first (number t.inflows n) (number t.outflows n) (number t.areas n) (number t.read_heads n) last);
+      (next_top h good n inside junction (node_fixed_at t.nodes n) first (number t.inflows n) (number t.outflows n) (number t.areas n) (number t.read_heads n) last);
 }
 
 trials_tops : {h : Hydraulics} → IsGood h → (s : Nets) (k : ℕ) → IsBelowTops h s → IsBelowTops h (trials (law_of h) s k)

@@ -7,12 +7,12 @@ use Rattle.std.proofs.lemmas.List.FromFn.{fill_by_all, get_or-map-range_with_len
 use Rattle.fixed_num.specs.Ranges.{IsWithin}
 use Rattle.net_types.specs.declared.network.Node.{Node}
 use Rattle.net_types.specs.declared.project.Project.{Project}
-use Rattle.node_update.specs.NodeLaws.{node_at, no_node}
+use Rattle.net_types.specs.Records.{node_at, no_node}
 use Rattle.summaries.specs.Figures.{Figures, AreFigures, AreSummaries, inverts_of, new_figures, node_summary, link_summary}
 use Rattle.summaries.specs.Peaks.{peak_of}
 use Rattle.summaries.specs.Steps.{new_node_summary, new_link_summary, no_node_summary}
-use Rattle.trial_model.specs.Fits.{FlowsFit, HeadsFit, number}
-use Rattle.trial_model.specs.Trial.{list_of}
+use Rattle.trial_model.specs.Fits.{FlowsFit, HeadsFit}
+use Rattle.fixed_num.specs.Lists.{number, list_of}
 use Rattle.trial_model.specs.declared.nets.Nets.{Nets}
 use Rattle.run_engine.specs.Kept.{AreSumsOf}
 use Rattle.run_engine.specs.Results.{floods_at, node_summaries, link_summaries}

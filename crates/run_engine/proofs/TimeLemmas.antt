@@ -3,10 +3,9 @@ use Rattle.std.proofs.Common.{◌≡◌, ℕ, ◌+◌, ◌-◌, ◌*◌, ◌/◌
 use Rattle.std.specs.Int.{int_min}
 use Rattle.std.proofs.lemmas.Int.{ints, clamps}
 use Rattle.std.proofs.lemmas.Nat.{div_below}
-use Rattle.fixed_num.specs.Ranges.{IsBetween, IsWithin}
+use Rattle.fixed_num.specs.Ranges.{IsBetween, IsWithin, IsStepLength}
 use Rattle.fixed_num.proofs.Bounds.{within_mul, within_between, fits64}
 use Rattle.net_types.specs.declared.options.Options.{Options}
-use Rattle.phase_law.specs.Ranges.{LengthInRange}
 use Rattle.run_engine.specs.Runnable.{AreRunOptions}
 use Rattle.run_engine.specs.Times.{duration_of, steps_of, moment_of, length_of}
 
@@ -78,7 +77,7 @@ even_times k s e =
 even_min : (a b : ℕ) → a % 2 ≡ 0 → b % 2 ≡ 0 → min a b % 2 ≡ 0
 even_min a b e f = omega arith
 
-between_moments : (m n s : ℕ) → m ≤ n → n ≤ m + s → s ≤ 3_600_000 → m % 2 ≡ 0 → n % 2 ≡ 0 → LengthInRange (pos n -ℤ pos m)
+between_moments : (m n s : ℕ) → m ≤ n → n ≤ m + s → s ≤ 3_600_000 → m % 2 ≡ 0 → n % 2 ≡ 0 → IsStepLength (pos n -ℤ pos m)
 between_moments m n s h k most e f =
     let size : unsigned_abs (pos n -ℤ pos m) ≡ n - m = omega (arith, ints) in
     record {
@@ -90,7 +89,7 @@ between_moments m n s h k most e f =
 min_more : (a s d : ℕ) → (min a d ≤ min (a + s) d) × (min (a + s) d ≤ min a d + s)
 min_more a s d = (omega arith, omega arith)
 
-pub length_in : {options : Options} → AreRunOptions options → (k : ℕ) → LengthInRange (length_of options k)
+pub length_in : {options : Options} → AreRunOptions options → (k : ℕ) → IsStepLength (length_of options k)
 unfolding length_of
 length_in {options} o k =
     let s = unsigned_abs options.step_ms in
@@ -102,13 +101,13 @@ length_in {options} o k =
     let f = even_times (k + 1) s o.step_even in
     let next = moment_is o (k + 1) in
     let this = moment_is o k in
-    subst (λ (z : ℤ). LengthInRange (z -ℤ moment_of options k)) (sym next)
-    (subst (λ (z : ℤ). LengthInRange (pos (min ((k + 1) * s) d) -ℤ z)) (sym this)
+    subst (λ (z : ℤ). IsStepLength (z -ℤ moment_of options k)) (sym next)
+    (subst (λ (z : ℤ). IsStepLength (pos (min ((k + 1) * s) d) -ℤ z)) (sym this)
     (between_moments (min (k * s) d) (min ((k + 1) * s) d) s (omega (arith, more, grow.0)) (omega (arith, more, grow.1)) short
     (even_min (k * s) d e o.duration_even) (even_min ((k + 1) * s) d f o.duration_even)))
 
 pub length_fits : {options : Options} → AreRunOptions options → (k : ℕ) → FitsSigned w64 (length_of options k)
 length_fits o k = let r = length_in o k in fits64 (size r) tt
   where
-    size : {z : ℤ} → LengthInRange z → IsWithin 3_600_000 z
+    size : {z : ℤ} → IsStepLength z → IsWithin 3_600_000 z
     size r = record { within = omega (arith, ints, r.least, r.most) }

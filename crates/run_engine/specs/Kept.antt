@@ -8,7 +8,8 @@ use Rattle.link_eval.specs.declared.hydraulics.Hydraulics.{Hydraulics}
 use Rattle.net_types.specs.declared.project.Project.{Project}
 use Rattle.report_writer.specs.declared.counts.RunCounts.{RunCounts}
 use Rattle.summaries.specs.Figures.{Figures, AreFigures, AreSummaries, inverts_of}
-use Rattle.trial_model.specs.Fits.{Fits, number}
+use Rattle.trial_model.specs.Fits.{Fits}
+use Rattle.fixed_num.specs.Lists.{number}
 use Rattle.trial_model.specs.Trial.{SumsOf}
 use Rattle.trial_model.specs.declared.nets.Nets.{Nets}
 use Rattle.run_engine.specs.Results.{account_at, counts_after, floods_at}

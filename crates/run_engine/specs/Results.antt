@@ -2,13 +2,13 @@
 use Rattle.std.specs.Prelude.{ℕ, zero, suc, ◌+◌, if◌then◌else◌, List, length, replicate, ℤ, pos}
 use Rattle.net_types.specs.declared.account.StepAccount.{StepAccount}
 use Rattle.net_types.specs.declared.project.Project.{Project}
-use Rattle.phase_law.specs.Sums.{below}
+use Rattle.fixed_num.specs.Sums.{below}
 use Rattle.trial_model.specs.declared.step.StepEnd.{StepEnd}
-use Rattle.trial_model.specs.Trial.{list_of}
+use Rattle.fixed_num.specs.Lists.{list_of}
 use Rattle.continuity.specs.Account.{account_of, floods_of}
 use Rattle.continuity.specs.Sums.{total_of}
 use Rattle.link_eval.specs.Hydraulics.{hydraulics_of}
-use Rattle.node_update.specs.NodeLaws.{node_at}
+use Rattle.net_types.specs.Records.{node_at}
 use Rattle.report_writer.specs.declared.counts.RunCounts.{RunCounts}
 use Rattle.summaries.specs.Figures.{node_summary, link_summary}
 use Rattle.summaries.specs.declared.link_summary.LinkSummary.{LinkSummary}

@@ -2,14 +2,14 @@
 use Rattle.std.specs.Prelude.{◌≡◌, ℕ, ◌%◌, ◌^◌, ◌<◌, ◌≤◌, length, pos, ◌*ℤ◌, ◌≤ℤ◌}
 use Rattle.std.specs.Int.RustNames.{unsigned_abs}
 use Rattle.std.specs.List.{All}
-use Rattle.fixed_num.specs.Ranges.{IsBetween}
+use Rattle.fixed_num.specs.Ranges.{IsBetween, IsFlow}
 use Rattle.net_types.specs.declared.network.Link.{Link}
 use Rattle.net_types.specs.declared.network.Node.{Node}
 use Rattle.net_types.specs.declared.options.Options.{Options}
 use Rattle.net_types.specs.declared.project.Project.{Project}
-use Rattle.phase_law.specs.Ranges.{FlowInRange}
 use Rattle.link_eval.specs.Hydraulics.{IsHydraulic}
-use Rattle.node_update.specs.NodeLaws.{node_at, node_law_of}
+use Rattle.node_update.specs.NodeLaws.{node_law_of}
+use Rattle.net_types.specs.Records.{node_at}
 use Rattle.node_update.specs.declared.node_law.HeadRule.TheVariants.{Junction as JunctionRule}
 use Rattle.report_writer.specs.DateTexts.{HasCalendarDates}
 use Rattle.time_series.specs.LateralFlow.{HasConstantInflows}
@@ -34,7 +34,7 @@ HasInitialDepth node = IsBetween (pos 0) node.y0 (pos (10 ^ 9))
 
 -- a link's initial flow is within 10^12 cm³/s
 abbrev pub HasInitialFlow : Link → Type 0
-HasInitialFlow link = FlowInRange (kind_flow link.kind)
+HasInitialFlow link = IsFlow (kind_flow link.kind)
 
 -- a network with hydraulics and constant inflows, of which no junction begins above its top
 pub record IsRunnable (project : Project) : Type 0 where

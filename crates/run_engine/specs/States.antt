@@ -15,13 +15,14 @@ use Rattle.phase_law.specs.declared.values.LinkFixed.{LinkFixed}
 use Rattle.phase_law.specs.declared.values.NodeFixed.{NodeFixed}
 use Rattle.trial_model.specs.declared.nets.Nets.{Nets}
 use Rattle.trial_model.specs.declared.step.StepEnd.{StepEnd}
-use Rattle.trial_model.specs.Fits.{number, node_at}
+use Rattle.trial_model.specs.Fits.{node_fixed_at}
+use Rattle.fixed_num.specs.Lists.{number, list_of}
 use Rattle.trial_model.specs.RoutingStep.{end_of, trials}
 use Rattle.trial_model.specs.Start.{no_link}
-use Rattle.trial_model.specs.Trial.{list_of, inflow_of, outflow_of}
+use Rattle.trial_model.specs.Trial.{inflow_of, outflow_of}
 use Rattle.link_eval.specs.declared.hydraulics.Hydraulics.{Hydraulics}
 use Rattle.link_eval.specs.Hydraulics.{hydraulics_of, law_of, mid_area_at}
-use Rattle.node_update.specs.NodeLaws.{node_at as node_of}
+use Rattle.net_types.specs.Records.{node_at as node_of}
 use Rattle.time_series.specs.LateralFlow.{lateral_of}
 use Rattle.run_engine.specs.Times.{length_of}
 
@@ -100,7 +101,7 @@ prepared_link project s = link_start (hydraulics_of project) s.heads s.flows
 abbrev pub node_start : Project → (heads inflows outflows : List ℤ) → List NodeFixed → (dt : ℤ) → ℕ → NodeFixed
 node_start project heads inflows outflows nodes dt n = record {
   h_old = number heads n;
-  net_old = (node_at nodes n).lateral +ℤ number inflows n -ℤ number outflows n;
+  net_old = (node_fixed_at nodes n).lateral +ℤ number inflows n -ℤ number outflows n;
   lateral = lateral_of project n;
   stage = stage_of (node_of project.nodes n).kind;
   dt = dt;

@@ -4,10 +4,10 @@ ghost use Rattle.std.specs.List.{All};
 ghost use Rattle.fixed_num.specs.Ranges.{IsBetween, IsWithin};
 ghost use Rattle.link_eval.specs.Hydraulics.{hydraulics_of};
 ghost use Rattle.node_update.specs.Network.{IsFixedStage, IsNode, IsNodeKind};
-ghost use Rattle.node_update.specs.NodeLaws.{node_at as node_of};
+ghost use Rattle.net_types.specs.Records.{node_at as node_of};
 ghost use Rattle.time_series.specs.LateralFlow.{HasConstantInflows};
 ghost use Rattle.trial_model.specs.Start.{resting};
-ghost use Rattle.trial_model.specs.Trial.{list_of};
+ghost use Rattle.fixed_num.specs.Lists.{list_of};
 ghost use Rattle.run_engine.specs.Runnable.{HasInitialDepth, HasInitialFlow, IsRunnable};
 ghost use Rattle.run_engine.specs.States.{kind_flow, kind_head, level_of, opening, opening_flow, opening_head, opening_node, stage_of};
 

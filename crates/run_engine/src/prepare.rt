@@ -1,10 +1,10 @@
 // Making a state ready for the trials of a step.
 ghost use Rattle.std.specs.Prelude.{◌≡◌, ◌<◌, length};
 ghost use Rattle.link_eval.specs.Hydraulics.{hydraulics_of, law_of, mid_area_at};
-ghost use Rattle.phase_law.specs.Ranges.{FlowInRange, LengthInRange};
+ghost use Rattle.fixed_num.specs.Ranges.{IsStepLength, IsFlow};
 ghost use Rattle.time_series.specs.LateralFlow.{HasConstantInflows};
-ghost use Rattle.trial_model.specs.Fits.{Fits, FlowsFit, HeadsFit, node_at, number};
-ghost use Rattle.trial_model.specs.Trial.{list_of};
+ghost use Rattle.trial_model.specs.Fits.{Fits, FlowsFit, HeadsFit, node_fixed_at};
+ghost use Rattle.fixed_num.specs.Lists.{number, list_of};
 ghost use Rattle.run_engine.specs.Runnable.{IsRunnable};
 ghost use Rattle.run_engine.specs.Amounts.{AreAmounts, HaveLaterals};
 ghost use Rattle.run_engine.specs.States.{link_start, node_start, prepared, project_law};
@@ -22,7 +22,7 @@ pub(crate) fn prepare(project: &Project, law: &HydraulicLaw, dt: i64, nets: &mut
     requires project { IsRunnable project.now }
     requires law { law.now.hydraulics ≡ hydraulics_of project.now }
     requires fits { Fits (project_law project.now) nets.old }
-    requires dt { LengthInRange dt }
+    requires dt { IsStepLength dt }
     ensures nets { nets.new ≡ prepared project.now dt nets.old }
     ensures fits { Fits (project_law project.now) nets.new }
 {
@@ -117,7 +117,7 @@ fn node_start(
     requires inflows { AreAmounts (length project.now.nodes) inflows.now }
     requires outflows { AreAmounts (length project.now.nodes) outflows.now }
     requires nodes { length nodes.now ≡ length project.now.nodes }
-    requires last { FlowInRange (node_at nodes.now n).lateral }
+    requires last { IsFlow (node_fixed_at nodes.now n).lateral }
     ensures { result ≡ node_start project.now heads.now inflows.now outflows.now nodes.now dt n }
 {
     let place = n as usize;

@@ -2,7 +2,7 @@
 ghost use Rattle.std.specs.Prelude.{◌≡◌, ◌≤◌, length};
 ghost use Rattle.continuity.specs.StepOf.{IsBelowTops};
 ghost use Rattle.link_eval.specs.Hydraulics.{hydraulics_of};
-ghost use Rattle.phase_law.specs.Ranges.{LengthInRange};
+ghost use Rattle.fixed_num.specs.Ranges.{IsStepLength};
 ghost use Rattle.trial_model.specs.Fits.{Fits};
 ghost use Rattle.trial_model.specs.Trial.{SumsOf};
 ghost use Rattle.run_engine.specs.Kept.{HaveSameCounts};
@@ -24,7 +24,7 @@ pub(crate) fn make_step(
 ) -> StepEnd
     requires project { IsRunnable project.now }
     requires law { law.now.hydraulics ≡ hydraulics_of project.now }
-    requires dt { LengthInRange dt }
+    requires dt { IsStepLength dt }
     requires room { Fits (project_law project.now) before.old }
     requires fits { Fits (project_law project.now) nets.old }
     requires tops { IsBelowTops (hydraulics_of project.now) nets.old }

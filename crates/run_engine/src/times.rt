@@ -1,7 +1,6 @@
 // The steps of a run and their moments.
 ghost use Rattle.std.specs.Prelude.{◌≡◌, ◌<◌, ◌≤◌, pos};
-ghost use Rattle.fixed_num.specs.Ranges.{IsBetween};
-ghost use Rattle.phase_law.specs.Ranges.{LengthInRange};
+ghost use Rattle.fixed_num.specs.Ranges.{IsBetween, IsStepLength};
 ghost use Rattle.run_engine.specs.Runnable.{AreRunOptions};
 ghost use Rattle.run_engine.specs.Times.{length_of, moment_of, steps_of};
 
@@ -33,7 +32,7 @@ pub(crate) fn length(options: &Options, k: u64) -> i64
     requires options { AreRunOptions options.now }
     requires k { k < 50_000_000 }
     ensures value { result ≡ length_of options.now k }
-    ensures range { LengthInRange result }
+    ensures range { IsStepLength result }
 {
     moment(options, k + 1) - moment(options, k)
 }

@@ -1,5 +1,5 @@
 -- Peaks are greatest values.
-use Rattle.std.proofs.Common.{◌≡◌, ℕ, zero, suc, ◌^◌, ◌<◌, ◌≤◌, Bool, true, false, ℤ, pos, neg_ℤ, ◌≤ℤ◌, ◌<ℤ◌, refl, inl, inr, ◌⊎◌, arith}
+use Rattle.std.proofs.Common.{◌≡◌, ℕ, zero, suc, ◌+◌, ◌<◌, ◌≤◌, Bool, true, false, ℤ, ◌≤ℤ◌, ◌<ℤ◌, refl, inl, inr, ◌⊎◌, arith, add-one}
 use Rattle.std.specs.Prelude.{int_lt}
 use Rattle.std.proofs.lemmas.Int.{ints}
 use Rattle.std.proofs.Math.Nat.{eq-or-lt_of_le}
@@ -49,14 +49,9 @@ next_peak f moments n peak true p e =
     rw e (new_peak f moments n (λ k h. let m = p.most k h in omega (arith, ints, m, above)))
 next_peak f moments n peak false p e = rw e (same_peak f moments n peak p (refuted peak.value (f n) e))
 
-pub peak_is : (f moments : ℕ → ℤ) (n : ℕ) → ((k : ℕ) → k < suc n → neg_ℤ (pos (2 ^ 63)) <ℤ f k) → IsPeak f moments (suc n) (peak_of f moments (suc n))
+pub peak_is : (f moments : ℕ → ℤ) (last : ℕ) → IsPeak f moments (last + 1) (peak_of f moments last)
 unfolding peak_of
-peak_is f moments zero above =
-    let e : int_lt (neg_ℤ (pos (2 ^ 63))) (f 0) ≡ true = grind (arith, ints, above 0 (omega arith)) in
-    rw e (new_peak f moments 0 (λ k h. absurd (omega arith)))
-peak_is f moments (suc n) above =
-    next_peak f moments (suc n) (peak_of f moments (suc n)) (int_lt (peak_of f moments (suc n)).value (f (suc n))) (peak_is f moments n (λ k h. above k (omega arith))) refl
-
-pub peak_some : (f moments : ℕ → ℤ) (count : ℕ) → 1 ≤ count → ((k : ℕ) → k < count → neg_ℤ (pos (2 ^ 63)) <ℤ f k) → IsPeak f moments count (peak_of f moments count)
-peak_some f moments zero h above = absurd (omega arith)
-peak_some f moments (suc n) h above = peak_is f moments n above
+peak_is f moments zero = new_peak f moments 0 (λ k h. absurd (omega arith))
+peak_is f moments (suc n) =
+    rw (add-one (suc n))
+    (next_peak f moments (suc n) (peak_of f moments n) (int_lt (peak_of f moments n).value (f (suc n))) (rw (add-one n) at (peak_is f moments n)) refl)

@@ -1,5 +1,5 @@
 -- Figures over a sequence of states (this project's profile).
-use Rattle.std.specs.Prelude.{◌≡◌, ℕ, zero, suc, ◌<◌, if◌then◌else◌, ℤ, pos, neg_ℤ, ◌+ℤ◌, ◌≤ℤ◌, ◌<ℤ◌, int_lt, ◌^◌}
+use Rattle.std.specs.Prelude.{◌≡◌, ℕ, zero, suc, ◌<◌, if◌then◌else◌, ℤ, ◌≤ℤ◌, ◌<ℤ◌, int_lt}
 
 -- a greatest value, and a moment in ms since the start
 pub record Peak : Type 0 where
@@ -19,17 +19,7 @@ pub record IsPeak (f moments : ℕ → ℤ) (count : ℕ) (peak : Peak) : Type 0
 abbrev pub raised : Peak → (value at : ℤ) → Peak
 raised peak value at = if int_lt peak.value value then record { value = value; at = at } else peak
 
--- the peak of f 0, .., f (count - 1); of no values it is below every number of 64 bits that is not the least
-unfoldable pub peak_of : (f moments : ℕ → ℤ) → ℕ → Peak
-peak_of f moments zero = record { value = neg_ℤ (pos (2 ^ 63)); at = pos 0 }
-peak_of f moments (suc n) = raised (peak_of f moments n) (f n) (moments n)
-
--- the last of f 0, .., f (count - 1), and 0 of none
-abbrev pub last_of : (ℕ → ℤ) → ℕ → ℤ
-last_of f zero = pos 0
-last_of f (suc n) = f n
-
--- the sum of f 0, .., f (count - 1)
-abbrev pub total_of : (ℕ → ℤ) → ℕ → ℤ
-total_of f zero = pos 0
-total_of f (suc n) = total_of f n +ℤ f n
+-- the peak of f 0, .., f last
+unfoldable pub peak_of : (f moments : ℕ → ℤ) → (last : ℕ) → Peak
+peak_of f moments zero = record { value = f 0; at = moments 0 }
+peak_of f moments (suc n) = raised (peak_of f moments n) (f (suc n)) (moments (suc n))

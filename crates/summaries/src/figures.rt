@@ -1,9 +1,9 @@
 // The figures of a run.
-ghost use Rattle.std.specs.Prelude.{◌≡◌, ℕ, ◌+◌, ◌*◌, ◌^◌, ◌≤◌, ◌<◌, List as Sequence, length, IfOk, ℤ, pos, neg_ℤ, ◌<ℤ◌};
+ghost use Rattle.std.specs.Prelude.{◌≡◌, ℕ, ◌+◌, ◌^◌, ◌≤◌, List as Sequence, length, IfOk, ℤ, pos};
 ghost use Rattle.std.specs.List.{All};
-ghost use Rattle.fixed_num.specs.Ranges.{IsBetween, IsWithin};
+ghost use Rattle.fixed_num.specs.Ranges.{IsBetween, IsFlow, IsHead};
 ghost use Rattle.trial_model.specs.declared.nets.Nets.{Nets as State};
-ghost use Rattle.trial_model.specs.Fits.{number};
+ghost use Rattle.fixed_num.specs.Lists.{number};
 ghost use Rattle.summaries.specs.Figures.{AreFigures, AreSummaries, HasGoodInvert, inverts_of, new_figures};
 ghost use Rattle.summaries.specs.Peaks.{IsPeak, Peak as PeakOf, peak_of};
 
@@ -56,9 +56,9 @@ impl Summaries {
         requires figures { AreFigures self.old }
         requires states { self.old.states ≤ 50_000_000 }
         requires heads { length nets.now.heads ≡ length self.old.inverts }
-        requires heads_in { (n : ℕ) → IsWithin (2 * 10 ^ 10) (number nets.now.heads n) }
+        requires heads_in { (n : ℕ) → IsHead (number nets.now.heads n) }
         requires flows { length nets.now.flows ≡ length self.old.links }
-        requires flows_in { (l : ℕ) → IsWithin (10 ^ 12) (number nets.now.flows l) }
+        requires flows_in { (l : ℕ) → IsFlow (number nets.now.flows l) }
         requires floods { length floods.now ≡ length self.old.inverts }
         requires floods_in { (n : ℕ) → IsBetween (pos 0) (number floods.now n) (pos (10 ^ 28)) }
         ensures summaries { (run : ℕ → State) (flooded : ℕ → Sequence ℤ) (moments : ℕ → ℤ) → AreSummaries run flooded moments self.old
@@ -69,13 +69,14 @@ impl Summaries {
         ensures inverts { self.new.inverts ≡ self.old.inverts }
         ensures links { length self.new.links ≡ length self.old.links }
     {
+        let first = self.states == 0;
         let inverts = self.inverts.as_slice();
         let heads = nets.heads.as_slice();
         let nodes = self.nodes.as_mut_slice();
-        add_nodes(nodes, inverts, heads, floods, moment);
+        add_nodes(nodes, first, inverts, heads, floods, moment);
         let flows = nets.flows.as_slice();
         let links = self.links.as_mut_slice();
-        add_links(links, flows, moment);
+        add_links(links, first, flows, moment);
         self.states += 1;
     }
 
@@ -94,10 +95,9 @@ impl Summaries {
     }
 }
 
-/// The peak of values above -2^63 over some states is the greatest of them, with the moment of the first state that
-/// has it.
+/// The peak of values over some states is the greatest of them, with the moment of the first state that has it.
 pub fn peaks_are_greatest()
-    ensures { (f moments : ℕ → ℤ) (count : ℕ) → 1 ≤ count → ((k : ℕ) → k < count → neg_ℤ (pos (2 ^ 63)) <ℤ f k) → IsPeak f moments count (peak_of f moments count) }
+    ensures { (f moments : ℕ → ℤ) (last : ℕ) → IsPeak f moments (last + 1) (peak_of f moments last) }
 {}
 
 // The inverts of the nodes, in µm.

@@ -1,9 +1,9 @@
 // The summary of a link.
-ghost use Rattle.std.specs.Prelude.{◌≡◌, ℕ, ◌^◌, ◌<◌, length, replicate, IfOk, pos};
+ghost use Rattle.std.specs.Prelude.{◌≡◌, ℕ, ◌<◌, length, replicate, IfOk, pos};
 ghost use Rattle.std.specs.Int.RustNames.{unsigned_abs};
-ghost use Rattle.fixed_num.specs.Ranges.{IsWithin};
-ghost use Rattle.trial_model.specs.Fits.{number};
-ghost use Rattle.summaries.specs.Steps.{new_link_summary, link_at, with_link};
+ghost use Rattle.fixed_num.specs.Ranges.{IsFlow};
+ghost use Rattle.fixed_num.specs.Lists.{number};
+ghost use Rattle.summaries.specs.Steps.{no_link_summary, link_summary_at, with_link};
 
 use net_types::{List, OutOfMemory};
 use std::alloc::Global;
@@ -17,12 +17,19 @@ pub struct LinkSummary {
     pub last_flow: i64,
 }
 
-// One link's summary with one state more.
-fn with_state(summary: &LinkSummary, flow: i64, moment: i64) -> LinkSummary
-    requires flow { IsWithin (10 ^ 12) flow }
-    ensures { result ≡ with_link summary.now (pos (unsigned_abs flow)) flow moment }
+// One link's summary with one state more, which may be the first.
+fn with_state(summary: &LinkSummary, first: bool, flow: i64, moment: i64) -> LinkSummary
+    requires flow { IsFlow flow }
+    ensures { result ≡ with_link first summary.now (pos (unsigned_abs flow)) flow moment }
 {
     let size = flow.abs();
+    if first {
+        return LinkSummary {
+            max_flow: size,
+            at: moment,
+            last_flow: flow,
+        };
+    }
     if size > summary.max_flow {
         return LinkSummary {
             max_flow: size,
@@ -38,25 +45,26 @@ fn with_state(summary: &LinkSummary, flow: i64, moment: i64) -> LinkSummary
 }
 
 // Takes one state more into every link's summary.
-pub(crate) fn add_links(links: &mut [LinkSummary], flows: &[i64], moment: i64)
+pub(crate) fn add_links(links: &mut [LinkSummary], first: bool, flows: &[i64], moment: i64)
     requires flows { length flows.now ≡ length links.old }
-    requires flows_in { (l : ℕ) → IsWithin (10 ^ 12) (number flows.now l) }
+    requires flows_in { (l : ℕ) → IsFlow (number flows.now l) }
     ensures count { length links.new ≡ length links.old }
-    ensures each { (l : ℕ) → l < length links.old → link_at links.new l ≡ with_link (link_at links.old l) (pos (unsigned_abs (number flows.now l))) (number flows.now l) moment }
+    ensures each { (l : ℕ) → l < length links.old → link_summary_at links.new l
+        ≡ with_link first (link_summary_at links.old l) (pos (unsigned_abs (number flows.now l))) (number flows.now l) moment }
 {
     for l in 0..links.len() {
-        links[l] = with_state(&links[l], flows[l], moment);
+        links[l] = with_state(&links[l], first, flows[l], moment);
     }
 }
 
 // So many summaries of no state.
 pub(crate) fn new_links(alloc: Global, count: usize) -> Result<List<LinkSummary>, OutOfMemory>
-    ensures { IfOk result (λ list. list ≡ replicate count new_link_summary) }
+    ensures { IfOk result (λ list. list ≡ replicate count no_link_summary) }
 {
     let mut list = List::new(alloc);
     for _ in 0..count {
         list.push(LinkSummary {
-            max_flow: i64::MIN,
+            max_flow: 0,
             at: 0,
             last_flow: 0,
         })?;

@@ -11,7 +11,7 @@ use Rattle.net_types.specs.declared.network.Shape.TheVariants.{RectOpen, RectClo
 use Rattle.net_types.specs.declared.project.Project.{Project}
 use Rattle.fixed_num.specs.Ranges.{IsBetween}
 use Rattle.fixed_num.proofs.Between.{between_number, between_up}
-use Rattle.inp_reader.specs.Soundness.{IsSound, LinkInRange, LinkKindInRange, NoneOrInRange, ShapeInRange}
+use Rattle.inp_reader.specs.Soundness.{IsSound, LinkFixedInRange, LinkKindInRange, NoneOrInRange, ShapeInRange}
 use Rattle.project_check.specs.IsRead.{IsRead, IsReadLink, IsReadOffset, IsReadSection}
 use Rattle.project_check.specs.Network.{first_offset}
 use Rattle.xsect_tables.specs.Sections.{HasSizes, IsRectOpen}
@@ -47,11 +47,11 @@ section_read (Some found) h = record {
   shape = shape_read found.shape h.shape_in;
 }
 
-links_read : (nodes : ℕ) (links : List Link) → All (LinkInRange nodes) links → All IsReadLink links
+links_read : (nodes : ℕ) (links : List Link) → All (LinkFixedInRange nodes) links → All IsReadLink links
 links_read nodes [] all = All-nil IsReadLink
 links_read nodes (link ∷ links) all =
-    let here = All-head (LinkInRange nodes) link links all in
-    All-cons IsReadLink link links (record { offset = offset_read link.kind here.kind_in; «section» = section_read link.«section» here.section_in }) (links_read nodes links (All-tail (LinkInRange nodes) link links all))
+    let here = All-head (LinkFixedInRange nodes) link links all in
+    All-cons IsReadLink link links (record { offset = offset_read link.kind here.kind_in; «section» = section_read link.«section» here.section_in }) (links_read nodes links (All-tail (LinkFixedInRange nodes) link links all))
 
 pub sound_read : (project : Project) → IsSound project → IsRead project
 sound_read project sound = record {

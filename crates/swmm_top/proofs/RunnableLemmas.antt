@@ -24,7 +24,7 @@ use Rattle.net_types.specs.declared.network.Stage.TheVariants.{Free, Normal, Fix
 use Rattle.net_types.specs.declared.options.Options.{Options}
 use Rattle.net_types.specs.declared.project.Project.{Project}
 use Rattle.inp_options.specs.Ranges.{AreInRange}
-use Rattle.inp_reader.specs.Soundness.{IsSound, NodeInRange, NodeKindInRange, StageInRange, SectionInRange, ShapeInRange, NoneOrInRange, LinkInRange, LinkKindInRange, InflowInRange}
+use Rattle.inp_reader.specs.Soundness.{IsSound, NodeFixedInRange, NodeKindInRange, StageInRange, SectionInRange, ShapeInRange, NoneOrInRange, LinkFixedInRange, LinkKindInRange, InflowInRange}
 use Rattle.project_check.specs.Network.{has_outfall, is_junction_kind, is_outfall_kind, first_offset}
 use Rattle.project_check.specs.Profile.{IsInProfile, HasGoodArea, section_area, is_in_profile}
 use Rattle.project_check.specs.ProjectFaults.{fault_where, project_faults}
@@ -34,7 +34,8 @@ use Rattle.xsect_tables.specs.SectionTable.{table_of, full_area}
 use Rattle.xsect_tables.specs.Sections.{IsSection, IsRectOpen, HasSizes}
 use Rattle.xsect_tables.proofs.TableLemmas.{table_is, grid_area-between}
 use Rattle.node_update.specs.Network.{IsNode, IsNodeKind, IsFixedStage, IsConduitKind, HasSection, IsLink, HasEnds, IsNetwork}
-use Rattle.node_update.specs.NodeLaws.{node_law_of, kind_law, node_at, no_node, link_top, highest_top, end_top, section_height, first_offset as offset_at_first}
+use Rattle.node_update.specs.NodeLaws.{node_law_of, kind_law, link_top, highest_top, end_top, section_height, first_offset as offset_at_first}
+use Rattle.net_types.specs.Records.{node_at, no_node}
 use Rattle.node_update.specs.declared.node_law.HeadRule.TheVariants.{Junction as JunctionRule}
 use Rattle.link_eval.specs.Hydraulics.{IsGoodSection, HasGoodSection}
 use Rattle.time_series.specs.LateralFlow.{IsConstant}
@@ -106,7 +107,7 @@ node_kind (Junction surcharge pond) h = h.0
 node_kind (Outfall stage gated) h = stage_is stage h.0
 node_kind (Storage shape) h = h
 
-node_is : (node : Node) → NodeInRange node → IsNode node
+node_is : (node : Node) → NodeFixedInRange node → IsNode node
 node_is node h = record { invert = within_from h.invert_in; y_max = h.y_max_in; kind = node_kind node.kind h.kind_in }
 
 -- ---- links
@@ -134,7 +135,7 @@ still (Pump curve on startup shutoff) h = refl
 still (Orifice bottom offset cd6 flap) h = refl
 still (Weir notch crest cd6 flap contractions) h = refl
 
-flow_is : (link : Link) {nodes : ℕ} → LinkInRange nodes link → HasInitialFlow link
+flow_is : (link : Link) {nodes : ℕ} → LinkFixedInRange nodes link → HasInitialFlow link
 flow_is link h = let e = still link.kind h.kind_in in record { within = rw e (omega (arith, ints)) }
 
 rect_open : (shape : Shape) → ShapeInRange shape → IsRectOpen shape
@@ -223,12 +224,12 @@ the_link : {project : Project} (r : OneReach project) (P : Link → Type 0) → 
 the_link {project} r P all = All-head P r.conduit [] (All-same P (r.conduit ∷ []) project.links (sym r.one_link) all)
 
 -- ---- the network
-links_hydraulic : (project : Project) (r : OneReach project) → LinkInRange (length project.nodes) r.conduit → HasGoodSection r.conduit.section
+links_hydraulic : (project : Project) (r : OneReach project) → LinkFixedInRange (length project.nodes) r.conduit → HasGoodSection r.conduit.section
 links_hydraulic project r h =
     let found : SectionInRange r.section = subst NoneOrInRange r.section_is h.section_in in
     subst HasGoodSection (sym r.section_is) (good_section r.section found r.area)
 
-link_is : (project : Project) (r : OneReach project) → LinkInRange (length project.nodes) r.conduit → IsLink r.conduit
+link_is : (project : Project) (r : OneReach project) → LinkFixedInRange (length project.nodes) r.conduit → IsLink r.conduit
 link_is project r h =
     let found : SectionInRange r.section = subst NoneOrInRange r.section_is h.section_in in
     record { kind = link_kind r.conduit.kind h.kind_in; section = subst HasSection (sym r.section_is) found.full_in }
@@ -236,7 +237,7 @@ link_is project r h =
 network_is : (project : Project) → IsSound project → (p : IsInProfile project) → IsNetwork project
 network_is project s p =
     let r = one_reach project p in
-    let link = the_link r (LinkInRange (length project.nodes)) s.links_in in
+    let link = the_link r (LinkFixedInRange (length project.nodes)) s.links_in in
     record {
       few_nodes = s.few_nodes;
       few_links = s.few_links;
@@ -298,7 +299,7 @@ reach_depth {project} r =
     rw r.one_link (omega (arith, ints, clamps, top, r.depth))
 
 -- a junction is the first node of the reach
-is_first : {project : Project} (r : OneReach project) → LinkInRange (length project.nodes) r.conduit → (n : ℕ) → n < length project.nodes → is_junction_kind (node_at project.nodes n).kind ≡ true → n ≡ r.conduit.first
+is_first : {project : Project} (r : OneReach project) → LinkFixedInRange (length project.nodes) r.conduit → (n : ℕ) → n < length project.nodes → is_junction_kind (node_at project.nodes n).kind ≡ true → n ≡ r.conduit.first
 is_first {project} r link n h kind =
     let other : ¬ (n ≡ r.conduit.second) = λ same.
     let node = get_or_from_slice_get project.nodes r.conduit.second r.outfall no_node r.to in
@@ -313,7 +314,7 @@ unfolding node_law_of
 tops_are project s p n h rule =
     let r = one_reach project p in
     let node = node_at project.nodes n in
-    let link = the_link r (LinkInRange (length project.nodes)) s.links_in in
+    let link = the_link r (LinkFixedInRange (length project.nodes)) s.links_in in
     let kind = no_other_kind node.kind node.invert (int_max node.y_max (highest_top n project.links)) project.options rule in
     let first = is_first r link n h kind in
     let same : node ≡ r.junction = subst (λ (m : ℕ). node_at project.nodes m ≡ r.junction) (sym first) (get_or_from_slice_get project.nodes r.conduit.first r.junction no_node r.from) in
@@ -326,7 +327,7 @@ runnable project s h =
     let n = no_faults project h in
     let p = (in_profile project).0 n.profile in
     let r = one_reach project p in
-    let link = the_link r (LinkInRange (length project.nodes)) s.links_in in
+    let link = the_link r (LinkFixedInRange (length project.nodes)) s.links_in in
     record {
       options = run_options project s.options_in n;
       hydraulic = record { network = network_is project s p; tables = of_the_link r (λ l. HasGoodSection l.section) (links_hydraulic project r link) };

@@ -2,7 +2,7 @@ use Rattle.std.proofs.Common.{ℕ, ◌<◌, ◌*◌, ◌^◌, subst}
 use Rattle.std.proofs.lemmas.Int.{to_z-of_z}
 use Rattle.fixed_num.specs.Ranges.{IsWithin}
 use Rattle.fixed_num.proofs.Bounds.{fits128}
-use Rattle.trial_model.specs.Fits.{number}
+use Rattle.fixed_num.specs.Lists.{number}
 use Rattle.continuity.specs.Parts.{node_part}
 use Rattle.continuity.proofs.LawLemmas.{nodes_is}
 use Rattle.continuity.proofs.NodeLemmas.{flood_is, flood_in, floods_length}

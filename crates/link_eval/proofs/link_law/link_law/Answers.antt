@@ -4,7 +4,7 @@ use Rattle.std.proofs.lemmas.Int.{to_z-of_z}
 use Rattle.conduit_flow.specs.declared.conduit.ConduitData.{ConduitData}
 use Rattle.net_types.specs.declared.network.Node.{Node}
 use Rattle.node_update.proofs.HeightLemmas.{node_is}
-use Rattle.node_update.specs.NodeLaws.{node_at}
+use Rattle.net_types.specs.Records.{node_at}
 use Rattle.xsect_tables.specs.SectionTable.{SectionTable}
 use Rattle.link_eval.specs.Hydraulics.{conduit_of, is_gated as gated_of, link_law_of}
 use Rattle.link_eval.proofs.BuildLemmas.{law_with}

@@ -1,5 +1,5 @@
 use Rattle.std.proofs.Common.{pos}
-use Rattle.node_update.specs.NodeLaws.{node_at}
+use Rattle.net_types.specs.Records.{node_at}
 use Rattle.run_engine.specs.States.{opening_head}
 use Rattle.run_engine.proofs.FillLemmas.{Filled}
 use Rattle.run_engine.proofs.opening.open_heads.Given as goal

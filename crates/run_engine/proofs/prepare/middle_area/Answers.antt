@@ -2,7 +2,7 @@ use Rattle.std.proofs.Common.{rules, ℕ, ◌<◌, ap, arith, FitsSigned, w64}
 use Rattle.std.proofs.lemmas.Int.{to_z-of_z}
 use Rattle.link_eval.specs.Hydraulics.{law_of}
 use Rattle.link_eval.specs.LawGood.{law_good}
-use Rattle.trial_model.specs.Fits.{number}
+use Rattle.fixed_num.specs.Lists.{number}
 use Rattle.run_engine.proofs.LawLemmas.{head_within, link_in}
 use Rattle.run_engine.proofs.prepare.middle_area.Goals as goal
 

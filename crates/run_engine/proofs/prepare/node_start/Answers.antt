@@ -1,7 +1,8 @@
 use Rattle.std.proofs.Common.{rules, ◌∙◌, refl, FitsSigned, w64}
 use Rattle.std.proofs.lemmas.Int.{to_z-of_z}
 use Rattle.fixed_num.proofs.Bounds.{fits64}
-use Rattle.trial_model.specs.Fits.{node_at, number}
+use Rattle.trial_model.specs.Fits.{node_fixed_at}
+use Rattle.fixed_num.specs.Lists.{number}
 use Rattle.run_engine.proofs.PreparedLemmas.{gross_within, net_within, same_node}
 use Rattle.run_engine.proofs.prepare.node_start.Goals as goal
 
@@ -10,7 +11,7 @@ overflow_sub-result c =
     let n = c.args.n in
     let i = c.requires.inflows.each n c.requires.n in
     let o = c.requires.outflows.each n c.requires.n in
-    let lateral : FitsSigned w64 (node_at c.args.nodes.now n).lateral = search rules in
+    let lateral : FitsSigned w64 (node_fixed_at c.args.nodes.now n).lateral = search rules in
     let inflow : FitsSigned w64 (number c.args.inflows.now n) = search rules in
     let outflow : FitsSigned w64 (number c.args.outflows.now n) = search rules in
     simp (to_z-of_z, lateral, inflow, outflow, fits64 (gross_within c.requires.last i) tt) (fits64 (net_within c.requires.last i o) tt)
@@ -21,7 +22,7 @@ returns c =
     let i = c.requires.inflows.each n c.requires.n in
     let o = c.requires.outflows.each n c.requires.n in
     let head : FitsSigned w64 (number c.args.heads.now n) = search rules in
-    let lateral : FitsSigned w64 (node_at c.args.nodes.now n).lateral = search rules in
+    let lateral : FitsSigned w64 (node_fixed_at c.args.nodes.now n).lateral = search rules in
     let inflow : FitsSigned w64 (number c.args.inflows.now n) = search rules in
     let outflow : FitsSigned w64 (number c.args.outflows.now n) = search rules in
     let next : FitsSigned w64 c.lateral_flow.result = search rules in

@@ -1,6 +1,6 @@
 use Rattle.std.proofs.Common.{rules, ◌≡◌, ℤ, ◌-ℤ◌, sym, subst, FitsSigned, w64}
 use Rattle.std.proofs.lemmas.Int.{to_z-of_z}
-use Rattle.phase_law.specs.Ranges.{LengthInRange}
+use Rattle.fixed_num.specs.Ranges.{IsStepLength}
 use Rattle.run_engine.specs.Times.{length_of}
 use Rattle.run_engine.proofs.TimeLemmas.{length_fits, length_in}
 use Rattle.run_engine.proofs.times.length.Goals as goal
@@ -16,4 +16,4 @@ returns-clause-value c =
 
 pub returns-clause-range : goal.returns-clause-range
 returns-clause-range c =
-    subst (λ (z : ℤ). LengthInRange z) (sym (returns-clause-value c)) (length_in c.requires.options c.args.k)
+    subst (λ (z : ℤ). IsStepLength z) (sym (returns-clause-value c)) (length_in c.requires.options c.args.k)

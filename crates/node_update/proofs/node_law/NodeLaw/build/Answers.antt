@@ -3,7 +3,8 @@ use Rattle.std.specs.Int.{w64}
 use Rattle.std.proofs.lemmas.Int.{to_z-of_z}
 use Rattle.net_types.specs.declared.network.Node.{Node}
 use Rattle.fixed_num.proofs.Bounds.{within_between, fits64}
-use Rattle.node_update.specs.NodeLaws.{node_at, kind_law, node_law_of}
+use Rattle.node_update.specs.NodeLaws.{kind_law, node_law_of}
+use Rattle.net_types.specs.Records.{node_at}
 use Rattle.node_update.proofs.HeightLemmas.{node_is}
 use Rattle.node_update.proofs.node_law.NodeLaw.build.Goals as goal
 use Rattle.node_update.proofs.node_law.NodeLaw.build.Goals.{After-kind_law}

@@ -1,4 +1,4 @@
-use Rattle.std.proofs.Common.{◌≡◌, length, ap, sym, subst, ◌∙◌}
+use Rattle.std.proofs.Common.{◌≡◌, ℕ, ◌+◌, length, ap, sym, subst, ◌∙◌, arith}
 use Rattle.std.proofs.lemmas.Int.{to_z-of_z}
 use Rattle.summaries.specs.Figures.{Figures, AreFigures, AreSummaries}
 use Rattle.summaries.proofs.FigureLemmas.{nodes_more, links_more, written_whole}
@@ -18,4 +18,5 @@ returns-clause-summaries c run flooded moments sums here floods now =
     let now_is = rw old at now in
     let nodes = nodes_more run flooded moments inside (subst AreFigures old c.requires.figures) before c.add_nodes.new.nodes count (rw (run_is, floods_is, now_is) each) in
     let links = links_more run flooded moments inside before c.add_links.new.links link_count (rw (run_is, now_is) link_each) in
-    simp (written_whole c.self.inside.nodes c.add_nodes.new.nodes count, written_whole c.self.inside.links c.add_links.new.links link_count) (record { nodes = nodes; links = links })
+    let counted = λ (last : ℕ) (e : inside.states + 1 ≡ last + 1). let same : inside.states ≡ last = omega (arith, e) in same in
+    simp (written_whole c.self.inside.nodes c.add_nodes.new.nodes count, written_whole c.self.inside.links c.add_links.new.links link_count) (record { nodes = λ last e. nodes last (counted last e); links = λ last e. links last (counted last e) })
