@@ -6,13 +6,15 @@ use Rattle.std.proofs.Math.Seq.{take-add, take-append-add}
 use Rattle.std.proofs.KnownBytes.{Appends-trans}
 use Rattle.std.specs.Io.KnownBytes.{Appends}
 use Rattle.std.specs.List.{flat_map}
+use Rattle.fault_ports.specs.Causes.{HasNotFailed}
 use Rattle.fault_ports.specs.Output.{AppendsPrefix, Puts}
+use Rattle.fault_ports.specs.declared.faults.Faults.{Faults}
 
 -- where a loop over a piece stands: its first bytes are put, and no fault came
-pub record Put (held₀ held : Option (List ℕ)) (faults₀ faults : ℕ) (bytes : List ℕ) (at : ℕ) : Type 0 where
+pub record Put (held₀ held : Option (List ℕ)) (faults₀ faults : Faults) (bytes : List ℕ) (at : ℕ) : Type 0 where
   pub within : at ≤ length bytes
   pub front : Appends held₀ held (take at bytes)
-  pub kept : faults ≡ faults₀
+  pub kept : HasNotFailed faults₀ faults
 
 -- the part of a slice from `at` on, as the code takes it
 pub whole_rest : (at : ℕ) (xs : List ℕ) → take (length xs - at) (drop at xs) ≡ drop at xs
@@ -41,8 +43,8 @@ puts_after a b c xs ys (Ok _) first second = Appends-trans a b c xs ys first sec
 puts_after a b c xs ys (Err _) first second = prefix_after a b c xs ys first second
 
 -- one more put of a front of what is left of the piece
-pub put_more : (held₀ held₁ held₂ : Option (List ℕ)) (faults₀ faults₁ faults₂ : ℕ) (bytes : List ℕ) (at count : ℕ) → Put held₀ held₁ faults₀ faults₁ bytes at
-    → count ≤ length (take (length bytes - at) (drop at bytes)) → Appends held₁ held₂ (take count (take (length bytes - at) (drop at bytes))) → faults₂ ≡ faults₁
+pub put_more : (held₀ held₁ held₂ : Option (List ℕ)) (faults₀ faults₁ faults₂ : Faults) (bytes : List ℕ) (at count : ℕ) → Put held₀ held₁ faults₀ faults₁ bytes at
+    → count ≤ length (take (length bytes - at) (drop at bytes)) → Appends held₁ held₂ (take count (take (length bytes - at) (drop at bytes))) → HasNotFailed faults₁ faults₂
     → Put held₀ held₂ faults₀ faults₂ bytes (at + count)
 put_more held₀ held₁ held₂ faults₀ faults₁ faults₂ bytes at count so_far within front kept = record {
   within = omega (arith, so_far.within, within, ap length (whole_rest at bytes), length-drop at bytes);
@@ -64,6 +66,6 @@ prefix_at bytes_of a b c items place default within first second =
     subst (AppendsPrefix a c) (sym split) (prefix_after a b c before (item ++ later) first (prefix_stays b c item later second))
 
 -- where a loop over items stands: the bytes of its first items are put, and no fault came
-pub record PutItems {T : Type 0} (held₀ held : Option (List ℕ)) (faults₀ faults : ℕ) (bytes_of : T → List ℕ) (items : List T) (place : ℕ) : Type 0 where
+pub record PutItems {T : Type 0} (held₀ held : Option (List ℕ)) (faults₀ faults : Faults) (bytes_of : T → List ℕ) (items : List T) (place : ℕ) : Type 0 where
   pub front : Appends held₀ held (flat_map bytes_of (take place items))
-  pub kept : faults ≡ faults₀
+  pub kept : HasNotFailed faults₀ faults

@@ -1,6 +1,7 @@
 -- The ports over memory as their callers see them.
 use Rattle.std.specs.Prelude.{ℕ, ◌==◌, Bool, List}
 use Rattle.std.specs.List.{list_any}
+use Rattle.fault_ports.specs.declared.faults.Faults.{Faults}
 
 -- a source over memory: what is left, the numbers of the calls that fail, the most bytes of a call, the calls so
 -- far and the faults so far
@@ -9,7 +10,7 @@ pub record SourceState : Type 0 where
   pub fails : List ℕ
   pub most : ℕ
   pub calls : ℕ
-  pub faults : ℕ
+  pub faults : Faults
 
 -- a sink over memory: what it holds, the room that is left, the numbers of the calls that fail, the most bytes of a
 -- call, the calls so far and the faults so far
@@ -19,7 +20,7 @@ pub record SinkState : Type 0 where
   pub fails : List ℕ
   pub most : ℕ
   pub calls : ℕ
-  pub faults : ℕ
+  pub faults : Faults
 
 -- whether the call of this number is one of those that fail (this project's profile)
 abbrev pub is_chosen : ℕ → List ℕ → Bool

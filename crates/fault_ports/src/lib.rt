@@ -7,6 +7,7 @@
 //! ports over files are the trusted edge and tell no bytes.
 #![tactic(auto)]
 
+mod faults;
 mod files;
 mod memory;
 mod output;
@@ -14,7 +15,8 @@ mod ports;
 #[cfg(test)]
 mod tests;
 
+pub use faults::{Failed, Faults};
 pub use files::{FileSink, FileSource};
 pub use memory::{MemSink, MemSource};
 pub use output::{put_all, put_parts};
-pub use ports::{Failed, Gate, OpenGate, Sink, Source};
+pub use ports::{Gate, OpenGate, Sink, Source};

@@ -1,10 +1,11 @@
 // Ports over memory, which fail where they are told to.
-ghost use Rattle.std.specs.Prelude.{◌≡◌, ◌+◌, ◌++◌, ◌-◌, ◌<◌, ◌≤◌, ◌↔◌, ◌⊎◌, [], Some, min, length, take, drop, IfOk, OnErr, IsErr, IsTrue};
+ghost use Rattle.std.specs.Prelude.{◌≡◌, ◌+◌, ◌++◌, ◌-◌, ◌<◌, ◌≤◌, ◌↔◌, ◌⊎◌, [], Some, false, min, length, take, drop, IfOk, OnOk, OnErr, IsErr, IsTrue};
 ghost use Rattle.std.specs.Io.KnownBytes.{ReadConsumes, WriteAppends};
-ghost use Rattle.fault_ports.specs.Causes.{HasCause, one_more};
+ghost use Rattle.fault_ports.specs.Causes.{HasCause, no_faults, one_more, with_fault, without_fault};
 ghost use Rattle.fault_ports.specs.Memory.{is_chosen};
 
-use crate::ports::{Failed, Sink, Source, counted};
+use crate::faults::{Failed, Faults};
+use crate::ports::{Sink, Source};
 use net_types::{List, OutOfMemory, Text};
 use std::alloc::Global;
 use std::marker::Model;
@@ -18,7 +19,7 @@ pub struct MemSource {
     fails: List<u64>,
     most: usize,
     calls: u64,
-    faults: u64,
+    faults: Faults,
 }
 
 impl Model for MemSource {
@@ -36,7 +37,7 @@ impl MemSource {
     /// A source that has these bytes left. It takes no memory.
     pub fn new(bytes: Text, fails: List<u64>, most: usize) -> MemSource
         requires { 1 ≤ most }
-        ensures { result ≡ record { left = bytes; fails = fails; most = most; calls = 0; faults = 0 } }
+        ensures { result ≡ record { left = bytes; fails = fails; most = most; calls = 0; faults = no_faults } }
     {
         MemSource {
             bytes,
@@ -44,7 +45,7 @@ impl MemSource {
             fails,
             most,
             calls: 0,
-            faults: 0,
+            faults: Faults::none(),
         }
     }
 
@@ -65,25 +66,31 @@ impl Source for MemSource {
         ensures within { IfOk result (λ count. count ≤ length buf.new) }
         ensures bytes { ReadConsumes (Some self.old.left) (Some self.new.left) result buf.new }
         ensures cause { HasCause self.old.faults self.new.faults result }
+        ensures answered { OnOk result (self.new.faults.failed ≡ false) }
 
         // The calls that fail are the chosen ones.
         ensures fails { IsErr result ↔ IsTrue (is_chosen self.new.calls self.old.fails) }
-        ensures failed { OnErr result (self.new ≡ record self.old { calls = one_more self.old.calls; faults = one_more self.old.faults }) }
+        ensures failed { OnErr result (self.new ≡ record self.old { calls = one_more self.old.calls; faults = with_fault self.old.faults }) }
         ensures failed_buffer { OnErr result (buf.new ≡ buf.old) }
 
         // Every other call gives as many bytes as it may.
         ensures count { IfOk result (λ count. count ≡ min self.old.most (min (length buf.new) (length self.old.left))) }
-        ensures taken { IfOk result (λ count. self.new ≡ record self.old { left = drop count self.old.left; calls = one_more self.old.calls }) }
+        ensures taken { IfOk result (λ count. self.new ≡ record self.old {
+          left = drop count self.old.left;
+          calls = one_more self.old.calls;
+          faults = without_fault self.old.faults;
+        }) }
         ensures buffer { IfOk result (λ count. buf.new ≡ take count self.old.left ++ drop count buf.old) }
     {
         self.calls = self.calls.saturating_add(1);
         if self.fails.as_slice().contains(&self.calls) {
-            return Err(counted(&mut self.faults));
+            return Err(self.faults.fail());
         }
         let rest = &self.bytes.as_slice()[self.at..];
         let count = self.most.min(buf.len().min(rest.len()));
         buf[..count].copy_from_slice(&rest[..count]);
         self.at += count;
+        self.faults.pass();
         Ok(count)
     }
 }
@@ -98,7 +105,7 @@ pub struct MemSink {
     fails: List<u64>,
     most: usize,
     calls: u64,
-    faults: u64,
+    faults: Faults,
 }
 
 impl Model for MemSink {
@@ -121,7 +128,7 @@ impl MemSink {
         most: usize,
     ) -> Result<MemSink, OutOfMemory>
         requires { 1 ≤ most }
-        ensures { IfOk result (λ sink. sink ≡ record { held = []; room = room; fails = fails; most = most; calls = 0; faults = 0 }) }
+        ensures { IfOk result (λ sink. sink ≡ record { held = []; room = room; fails = fails; most = most; calls = 0; faults = no_faults }) }
     {
         let bytes = Vec::with_capacity(alloc, room)?;
         Ok(MemSink {
@@ -130,7 +137,7 @@ impl MemSink {
             fails,
             most,
             calls: 0,
-            faults: 0,
+            faults: Faults::none(),
         })
     }
 
@@ -152,10 +159,11 @@ impl Sink for MemSink {
         ensures moves { IfOk result (λ count. 0 < length piece.now → 0 < count) }
         ensures bytes { WriteAppends (Some self.old.held) (Some self.new.held) result piece.now }
         ensures cause { HasCause self.old.faults self.new.faults result }
+        ensures answered { OnOk result (self.new.faults.failed ≡ false) }
 
         // The calls that fail are the chosen ones and those without room.
         ensures fails { IsErr result ↔ (IsTrue (is_chosen self.new.calls self.old.fails) ⊎ ((self.old.room ≡ 0) × (0 < length piece.now))) }
-        ensures failed { OnErr result (self.new ≡ record self.old { calls = one_more self.old.calls; faults = one_more self.old.faults }) }
+        ensures failed { OnErr result (self.new ≡ record self.old { calls = one_more self.old.calls; faults = with_fault self.old.faults }) }
 
         // Every other call accepts as many bytes as it may.
         ensures count { IfOk result (λ count. count ≡ min self.old.most (min (length piece.now) self.old.room)) }
@@ -163,11 +171,12 @@ impl Sink for MemSink {
           held = self.old.held ++ take count piece.now;
           room = self.old.room - count;
           calls = one_more self.old.calls;
+          faults = without_fault self.old.faults;
         }) }
     {
         self.calls = self.calls.saturating_add(1);
         if is_failing(self.calls, self.fails.as_slice(), self.room, piece) {
-            return Err(counted(&mut self.faults));
+            return Err(self.faults.fail());
         }
         let count = self.most.min(piece.len().min(self.room));
         match self.bytes.extend_from_slice(&piece[..count]) {
@@ -175,6 +184,7 @@ impl Sink for MemSink {
             Err(_) => unreachable!(),
         }
         self.room -= count;
+        self.faults.pass();
         Ok(count)
     }
 }

@@ -1,35 +1,26 @@
 // The ports, and what every one of them keeps.
-ghost use Rattle.std.specs.Prelude.{List, Option, ℕ, ◌≡◌, ◌≤◌, ◌<◌, length, IfOk};
+ghost use Rattle.std.specs.Prelude.{List, Option, ℕ, ◌≡◌, ◌≤◌, ◌<◌, false, length, IfOk, OnOk};
 ghost use Rattle.std.specs.Io.KnownBytes.{ReadConsumes, WriteAppends};
-ghost use Rattle.fault_ports.specs.Causes.{HasCause, one_more};
+ghost use Rattle.fault_ports.specs.Causes.{HasCause};
+ghost use Rattle.fault_ports.specs.declared.faults.Faults.{Faults};
 
-/// A port's call failed. The port's count of faults rose with it.
-#[derive(Clone, Copy, Debug, PartialEq, Eq)]
-pub struct Failed;
-
-/// Counts a fault.
-pub(crate) fn counted(faults: &mut u64) -> Failed
-    ensures value { faults.new ≡ one_more faults.old }
-    ensures later { faults.old ≤ faults.new }
-{
-    *faults = faults.saturating_add(1);
-    Failed
-}
+use crate::faults::Failed;
 
 /// Bytes that can be taken once, in their order.
 pub trait Source {
     /// What is left, where the source tells it.
     ghost left: { Self → Option (List ℕ) };
 
-    /// How often the source has failed. It never falls.
-    ghost faults: { Self → ℕ };
+    /// How often the source's calls failed, and whether the last one did.
+    ghost faults: { Self → Faults };
 
     /// Takes bytes into the front of the buffer and gives their number. 0 for a buffer that isn't empty is the end
-    /// of input. After `Failed`, which comes only where the count of faults rose, what is left is as it was.
+    /// of input. After `Failed`, which comes only where one more fault was counted, what is left is as it was.
     fn take(&mut self, buf: &mut [u8]) -> Result<usize, Failed>
         ensures within { IfOk result (λ count. count ≤ length buf.new) }
         ensures bytes { ReadConsumes (left self.old) (left self.new) result buf.new }
-        ensures cause { HasCause (faults self.old) (faults self.new) result };
+        ensures cause { HasCause (faults self.old) (faults self.new) result }
+        ensures answered { OnOk result ((faults self.new).failed ≡ false) };
 }
 
 /// A place that bytes are appended to.
@@ -37,16 +28,17 @@ pub trait Sink {
     /// What the sink holds, where it tells it.
     ghost held: { Self → Option (List ℕ) };
 
-    /// How often the sink has failed. It never falls.
-    ghost faults: { Self → ℕ };
+    /// How often the sink's calls failed, and whether the last one did.
+    ghost faults: { Self → Faults };
 
     /// Appends a front of the piece and gives its length, which is 0 only for an empty piece. After `Failed`, which
-    /// comes only where the count of faults rose, the sink holds what it held.
+    /// comes only where one more fault was counted, the sink holds what it held.
     fn put(&mut self, piece: &[u8]) -> Result<usize, Failed>
         ensures within { IfOk result (λ count. count ≤ length piece.now) }
         ensures moves { IfOk result (λ count. 0 < length piece.now → 0 < count) }
         ensures bytes { WriteAppends (held self.old) (held self.new) result piece.now }
-        ensures cause { HasCause (faults self.old) (faults self.new) result };
+        ensures cause { HasCause (faults self.old) (faults self.new) result }
+        ensures answered { OnOk result ((faults self.new).failed ≡ false) };
 }
 
 /// What a worker calls between claiming an item and depositing its first share.
