@@ -5,7 +5,9 @@ use Rattle.std.proofs.lemmas.Grind.{flat_map-append}
 use Rattle.std.proofs.lemmas.Slice.Zip.{get_or-zip, length-zip}
 use Rattle.std.specs.Io.KnownBytes.{Appends}
 use Rattle.std.specs.List.{flat_map, zip}
+use Rattle.fault_ports.specs.Causes.{HasNotFailed}
 use Rattle.fault_ports.specs.Output.{AppendsPrefix}
+use Rattle.fault_ports.specs.declared.faults.Faults.{Faults}
 use Rattle.fault_ports.proofs.OutputLemmas.{PutItems, prefix_at}
 
 module _ {A B : Type 0} (bytes_of : A × B → List ℕ) (held₀ held₁ held₂ : Option (List ℕ)) (ks : List A) (vs : List B) (place : ℕ) where
@@ -18,8 +20,8 @@ module _ {A B : Type 0} (bytes_of : A × B → List ℕ) (held₀ held₁ held�
   within in_ks in_vs = omega (arith, in_ks, in_vs, length-zip ks vs)
 
   -- one more pair was put
-  pub pair_more : (faults₀ faults₁ faults₂ : ℕ) (a : A) (b : B) → place < length ks → place < length vs → a ≡ get_or ks place a → b ≡ get_or vs place b
-      → PutItems held₀ held₁ faults₀ faults₁ bytes_of (zip ks vs) place → Appends held₁ held₂ (bytes_of (a, b)) → faults₂ ≡ faults₁
+  pub pair_more : (faults₀ faults₁ faults₂ : Faults) (a : A) (b : B) → place < length ks → place < length vs → a ≡ get_or ks place a → b ≡ get_or vs place b
+      → PutItems held₀ held₁ faults₀ faults₁ bytes_of (zip ks vs) place → Appends held₁ held₂ (bytes_of (a, b)) → HasNotFailed faults₁ faults₂
       → (places : ℕ) → places ≡ place + 1 → PutItems held₀ held₂ faults₀ faults₂ bytes_of (zip ks vs) places
   pair_more faults₀ faults₁ faults₂ a b in_ks in_vs is_a is_b so_far now kept places next =
       let pairs = zip ks vs in
