@@ -1,6 +1,6 @@
 -- What the law of hydraulics asks of a state, in the words of its nodes and links.
 use Rattle.std.proofs.Common.{◌≡◌, ℕ, ◌*◌, ◌^◌, ◌≤◌, ◌<◌, length, ℤ, refl}
-use Rattle.fixed_num.specs.Ranges.{IsWithin}
+use Rattle.fixed_num.specs.Ranges.{IsHead}
 use Rattle.link_eval.specs.Good.{IsGood}
 use Rattle.link_eval.specs.Hydraulics.{law_of, node_law_at}
 use Rattle.link_eval.specs.LawGood.{law_good}
@@ -18,7 +18,7 @@ pub links_is : (h : Hydraulics) → (law_of h).links ≡ length h.links
 unfolding law_of
 links_is h = refl
 
-pub head_in : (h : Hydraulics) {head : ℤ} → HeadInRange (law_of h) head → IsWithin (2 * 10 ^ 10) head
+pub head_in : (h : Hydraulics) {head : ℤ} → HeadInRange (law_of h) head → IsHead head
 unfolding law_of
 head_in h i = record { within = i.within }
 

@@ -10,7 +10,7 @@ use Rattle.conduit_flow.specs.Conduits.{IsConduit, IsConduitTable}
 use Rattle.conduit_flow.specs.Geometry.{depth_of, mean_depth_of, ends_of, middle_of}
 use Rattle.conduit_flow.specs.Limits.{greatest_of, held_of}
 use Rattle.conduit_flow.specs.declared.conduit.ConduitData.{ConduitData}
-use Rattle.fixed_num.specs.Ranges.{IsBetween, IsWithin, IsFlow}
+use Rattle.fixed_num.specs.Ranges.{IsBetween, IsWithin, IsFlow, IsHead}
 use Rattle.fixed_num.proofs.Bounds.{within_between, within_number, within_neg, within_mul, within_cut}
 use Rattle.node_update.specs.NodeUpdate.{IsNodeFixed}
 use Rattle.node_update.proofs.UpdateLemmas.{next_within}
@@ -87,7 +87,7 @@ share-in_range {conduit} {table} fixed first near far last c t =
     (wet_share-in_range fixed first near far last c t))
 
 -- ---- the next head of a node
-pub head_in : (h : Hydraulics) {head : ℤ} → HeadInRange (law_of h) head → IsWithin (2 * 10 ^ 10) head
+pub head_in : (h : Hydraulics) {head : ℤ} → HeadInRange (law_of h) head → IsHead head
 unfolding law_of
 head_in h r = record { within = r.within }
 
@@ -117,7 +117,7 @@ law_good h g = record {
 }
 
 -- ---- what is in range is in the law's ranges
-pub head_of_law : (h : Hydraulics) {head : ℤ} → IsWithin (2 * 10 ^ 10) head → HeadInRange (law_of h) head
+pub head_of_law : (h : Hydraulics) {head : ℤ} → IsHead head → HeadInRange (law_of h) head
 unfolding law_of
 head_of_law h r = record { within = r.within }
 

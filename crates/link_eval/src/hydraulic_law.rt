@@ -1,6 +1,6 @@
 // The law of a network, with what always holds of it.
 ghost use Rattle.std.specs.Prelude.{◌≡◌, ◌*◌, ◌^◌, ◌<◌, length, pos, IfOk};
-ghost use Rattle.fixed_num.specs.Ranges.{IsBetween, IsWithin};
+ghost use Rattle.fixed_num.specs.Ranges.{IsBetween, IsHead};
 ghost use Rattle.link_eval.specs.Good.{IsGood, IsGoodLink};
 ghost use Rattle.node_update.specs.NodeLaws.{IsNodeLaw};
 ghost use Rattle.link_eval.specs.Hydraulics.{IsHydraulic, hydraulics_of, node_law_at, link_law_at, volume_at, mid_area_at};
@@ -47,8 +47,8 @@ impl HydraulicLaw {
     /// The volume of water in a link, in mm³, from the heads at its ends in µm.
     pub fn link_volume(&self, link: u32, near: i64, far: i64) -> i128
         requires link { link < length self.now.hydraulics.links }
-        requires near { IsWithin (2 * 10 ^ 10) near }
-        requires far { IsWithin (2 * 10 ^ 10) far }
+        requires near { IsHead near }
+        requires far { IsHead far }
         ensures value { result ≡ volume_at self.now.hydraulics link near far }
         ensures range { IsBetween (pos 0) result (pos (10 ^ 22)) }
     {
@@ -59,8 +59,8 @@ impl HydraulicLaw {
     /// The area of flow in the middle of a link, in mm², from the heads at its ends in µm.
     pub fn mid_area(&self, link: u32, near: i64, far: i64) -> i64
         requires link { link < length self.now.hydraulics.links }
-        requires near { IsWithin (2 * 10 ^ 10) near }
-        requires far { IsWithin (2 * 10 ^ 10) far }
+        requires near { IsHead near }
+        requires far { IsHead far }
         ensures value { result ≡ mid_area_at self.now.hydraulics link near far }
         ensures range { IsBetween (pos 0) result (pos (10 ^ 11)) }
     {

@@ -1,7 +1,7 @@
 // The law of a link.
 ghost use Rattle.std.specs.Prelude.{◌≡◌, ◌||◌, ◌^◌, length};
 ghost use Rattle.std.specs.List.{All};
-ghost use Rattle.fixed_num.specs.Ranges.{IsWithin};
+ghost use Rattle.fixed_num.specs.Ranges.{IsElevation};
 ghost use Rattle.conduit_flow.specs.Conduits.{IsConduit, IsConduitTable};
 ghost use Rattle.node_update.specs.Network.{IsNode, IsLink, HasEnds, IsConduitKind, AreNetworkOptions};
 ghost use Rattle.link_eval.specs.Good.{IsGoodLink};
@@ -54,8 +54,8 @@ fn is_gated(kind: &NodeKind) -> bool
 // A conduit as it is routed, between two inverts in µm.
 fn conduit(kind: &LinkKind, near: i64, far: i64, gated: bool, options: &Options) -> ConduitData
     requires kind { IsConduitKind kind.now }
-    requires near { IsWithin (10 ^ 10) near }
-    requires far { IsWithin (10 ^ 10) far }
+    requires near { IsElevation near }
+    requires far { IsElevation far }
     requires options { AreNetworkOptions options.now }
     ensures value { result ≡ conduit_of kind.now near far gated options.now }
     ensures good { IsConduit result }

@@ -1,7 +1,7 @@
 ghost use Rattle.std.specs.Prelude.{◌≡◌, ◌*◌, ◌^◌, ◌<◌, length, pos, IfOk};
 ghost use Rattle.std.specs.List.{All};
 ghost use Rattle.phase_law.specs.Ranges.{SumsInRange, LinkFixedInRange};
-ghost use Rattle.fixed_num.specs.Ranges.{IsWithin};
+ghost use Rattle.fixed_num.specs.Ranges.{IsHead};
 ghost use Rattle.node_update.specs.Network.{IsNode, IsLink, HasEnds, AreNetworkOptions};
 ghost use Rattle.node_update.specs.NodeUpdate.{IsNodeFixed};
 ghost use Rattle.link_eval.specs.Hydraulics.{IsGoodSection, HasGoodSection, IsHydraulic, law_of};
@@ -38,7 +38,7 @@ fn one_reach_has_a_law(rt: HostRuntime) -> Result<(), Fail> {
 // The flow of the link in a trial of ten seconds from rest, from this head to one of 1 m.
 fn flow(law: &HydraulicLaw, first: bool, near: i64) -> i64
     requires link { 0 < (law_of law.now.hydraulics).links }
-    requires near { IsWithin (2 * 10 ^ 10) near }
+    requires near { IsHead near }
 {
     law.link_share(0, &from_rest(), first, near, 1_000_000, 0).q
 }
@@ -47,7 +47,7 @@ fn flow(law: &HydraulicLaw, first: bool, near: i64) -> i64
 fn head(law: &HydraulicLaw, node: u32, first: bool, outflow: i64, last: i64) -> i64
     requires node { node < (law_of law.now.hydraulics).nodes }
     requires sums { SumsInRange (pos 0) outflow (pos 50_000_000) }
-    requires last { IsWithin (2 * 10 ^ 10) last }
+    requires last { IsHead last }
 {
     law.node_next(node, &filling(), first, 0, outflow, 50_000_000, last)
         .head

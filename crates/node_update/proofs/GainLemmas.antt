@@ -2,7 +2,7 @@
 use Rattle.std.proofs.Common.{◌≡◌, ℕ, ◌*◌, ◌/◌, ◌^◌, ◌≤◌, ℤ, pos, negsuc, ◌+ℤ◌, ◌-ℤ◌, ◌*ℤ◌, ◌≤ℤ◌, unsigned_abs, refl, arith}
 use Rattle.std.specs.Prelude.{int_div}
 use Rattle.std.proofs.lemmas.Int.{ints}
-use Rattle.fixed_num.specs.Ranges.{IsBetween, IsWithin, IsFlow, IsStepLength}
+use Rattle.fixed_num.specs.Ranges.{IsBetween, IsWithin, IsFlow, IsStepLength, IsHead, IsElevation}
 use Rattle.fixed_num.specs.Rounding.{quo_of}
 use Rattle.fixed_num.proofs.Between.{product_from_zero}
 use Rattle.fixed_num.proofs.Bounds.{within_number, within_up, within_add, within_sub, within_mul, within_between, within_quo, within_quo_by, between_up, between_add, le_number, quo_of-from_zero}
@@ -12,7 +12,7 @@ use Rattle.node_update.specs.NodeLaws.{IsNodeLaw}
 use Rattle.node_update.specs.NodeUpdate.{IsNodeFixed, net_of, gain_of, surface_of, raised_of, excess_of}
 use Rattle.node_update.specs.declared.node_law.NodeLaw.{NodeLaw as Law}
 
-pub flow_within : {flow : ℤ} → IsFlow flow → IsWithin (10 ^ 12) flow
+pub flow_within : {flow : ℤ} → IsFlow flow → IsFlow flow
 flow_within h = record { within = h.within }
 
 -- the sums that a node gets of its links
@@ -55,13 +55,13 @@ unfolding surface_of
 surface_between h p = between_up (between_add h.area_in p) tt tt
 
 -- the top of a node
-top_within_lemma : (invert top : ℤ) → IsWithin (10 ^ 10) invert → IsBetween invert top (invert +ℤ pos (3 * 10 ^ 9)) → IsWithin (2 * 10 ^ 10) top
+top_within_lemma : (invert top : ℤ) → IsElevation invert → IsBetween invert top (invert +ℤ pos (3 * 10 ^ 9)) → IsHead top
 top_within_lemma invert top p q = let l = q.from in let m = q.to in let w = p.within in record { within = omega (arith, ints) }
 
-pub top_within : {law : Law} → IsNodeLaw law → IsWithin (2 * 10 ^ 10) law.top
+pub top_within : {law : Law} → IsNodeLaw law → IsHead law.top
 top_within {law} h = top_within_lemma law.invert law.top h.invert_in h.top_in
 
-pub invert_within : {law : Law} → IsNodeLaw law → IsWithin (2 * 10 ^ 10) law.invert
+pub invert_within : {law : Law} → IsNodeLaw law → IsHead law.invert
 invert_within h = within_up h.invert_in tt
 
 -- the raised head

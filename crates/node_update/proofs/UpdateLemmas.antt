@@ -3,7 +3,7 @@ use Rattle.std.proofs.Common.{◌≡◌, ◌∙◌, ℕ, ◌*◌, ◌^◌, Bool,
 use Rattle.std.specs.Prelude.{int_lt}
 use Rattle.std.specs.Int.{int_max}
 use Rattle.std.proofs.lemmas.Int.{ints, clamps}
-use Rattle.fixed_num.specs.Ranges.{IsBetween, IsWithin, cut_of}
+use Rattle.fixed_num.specs.Ranges.{IsBetween, IsWithin, cut_of, IsHead}
 use Rattle.fixed_num.specs.Rounding.{quo_of}
 use Rattle.fixed_num.proofs.Bounds.{within_up, within_add, within_sub, within_mul, within_max, within_cut, within_between, within_quo_by, between_cut, le_number, lt_number, quo_of-mono, quo_of-exact}
 use Rattle.phase_law.specs.Ranges.{SumsInRange}
@@ -17,7 +17,7 @@ use Rattle.node_update.specs.declared.node_law.NodeLaw.{NodeLaw as Law}
 use Rattle.node_update.proofs.GainLemmas.{top_within, invert_within, excess_within, excess_most}
 
 -- ---- the mean of two heads
-pub mean_within : {last new : ℤ} → IsWithin (2 * 10 ^ 10) last → IsWithin (2 * 10 ^ 10) new → IsWithin (2 * 10 ^ 10) (quo_of (last +ℤ new) (pos 2))
+pub mean_within : {last new : ℤ} → IsHead last → IsHead new → IsHead (quo_of (last +ℤ new) (pos 2))
 mean_within p q = within_up (within_quo_by 2 (within_add p q) (le_number tt) tt) tt
 
 twice : (a b top : ℤ) → a ≤ℤ top → b ≤ℤ top → (a +ℤ b) ≤ℤ (top *ℤ pos 2)
@@ -28,7 +28,7 @@ mean_place last new top h k =
     subst (λ (z : ℤ). quo_of (last +ℤ new) (pos 2) ≤ℤ z) (quo_of-exact top (pos 2) (lt_number tt))
     (quo_of-mono (last +ℤ new) (top *ℤ pos 2) (pos 2) (twice last new top h k))
 
-pub relaxed_within : (first : Bool) {last new : ℤ} → IsWithin (2 * 10 ^ 10) last → IsWithin (2 * 10 ^ 10) new → IsWithin (2 * 10 ^ 10) (relaxed_of first last new)
+pub relaxed_within : (first : Bool) {last new : ℤ} → IsHead last → IsHead new → IsHead (relaxed_of first last new)
 unfolding relaxed_of
 relaxed_within true p q = q
 relaxed_within false p q = mean_within p q
@@ -39,7 +39,7 @@ relaxed_place true last new top h k = k
 relaxed_place false last new top h k = mean_place last new top h k
 
 -- ---- a raised head, held between invert and top
-pub held_within : {law : Law} (raised : ℤ) → IsNodeLaw law → IsWithin (2 * 10 ^ 10) (cut_of raised law.invert law.top)
+pub held_within : {law : Law} (raised : ℤ) → IsNodeLaw law → IsHead (cut_of raised law.invert law.top)
 held_within {law} raised l = within_cut raised (rises l.top_in) (invert_within l) (top_within l)
   where
     rises : {a x b : ℤ} → IsBetween a x b → a ≤ℤ x
@@ -49,7 +49,7 @@ pub held_place : {law : Law} (raised : ℤ) → IsNodeLaw law → cut_of raised 
 held_place {law} raised l = (between_cut {a = law.invert} {b = law.top} raised l.top_in.from).to
 
 -- ---- the next head of a junction
-pub head_within : {law : Law} (fixed : NodeFixed) (first : Bool) (i o a : ℤ) {last : ℤ} → IsNodeLaw law → IsWithin (2 * 10 ^ 10) last → IsWithin (2 * 10 ^ 10) (junction_head law fixed first i o a last)
+pub head_within : {law : Law} (fixed : NodeFixed) (first : Bool) (i o a : ℤ) {last : ℤ} → IsNodeLaw law → IsHead last → IsHead (junction_head law fixed first i o a last)
 unfolding junction_head
 head_within {law} fixed first i o a l h = relaxed_within first h (held_within (raised_of law fixed i o a) l)
 
@@ -58,11 +58,11 @@ unfolding junction_head
 head_place {law} fixed first i o a last l h = relaxed_place first last (cut_of (raised_of law fixed i o a) law.invert law.top) law.top h (held_place (raised_of law fixed i o a) l)
 
 -- ---- the next head of a node
-rule_within : (rule : Rule) {law : Law} {fixed : NodeFixed} (first : Bool) (i o a : ℤ) {last : ℤ} → IsNodeLaw law → IsNodeFixed fixed → IsWithin (2 * 10 ^ 10) last → IsWithin (2 * 10 ^ 10) (rule_next rule law fixed first i o a last).head
+rule_within : (rule : Rule) {law : Law} {fixed : NodeFixed} (first : Bool) (i o a : ℤ) {last : ℤ} → IsNodeLaw law → IsNodeFixed fixed → IsHead last → IsHead (rule_next rule law fixed first i o a last).head
 rule_within JunctionRule {law} {fixed} first i o a l f h = head_within fixed first i o a l h
 rule_within FixedOutfall {law} {fixed} first i o a l f h = within_max (invert_within l) f.stage
 
-pub next_within : {law : Law} {fixed : NodeFixed} (first : Bool) (i o a : ℤ) {last : ℤ} → IsNodeLaw law → IsNodeFixed fixed → IsWithin (2 * 10 ^ 10) last → IsWithin (2 * 10 ^ 10) (next_of law fixed first i o a last).head
+pub next_within : {law : Law} {fixed : NodeFixed} (first : Bool) (i o a : ℤ) {last : ℤ} → IsNodeLaw law → IsNodeFixed fixed → IsHead last → IsHead (next_of law fixed first i o a last).head
 unfolding next_of
 next_within {law} first i o a l f h = rule_within law.rule first i o a l f h
 
@@ -107,11 +107,11 @@ unfolding flood_of
 flood_most {law} fixed last l s h = rule_flood_most law.rule fixed l s h
 
 -- ---- the volume
-rule_volume_within : (rule : Rule) {law : Law} {head : ℤ} → IsNodeLaw law → IsWithin (2 * 10 ^ 10) head → IsWithin (10 ^ 21) (rule_volume rule law head)
+rule_volume_within : (rule : Rule) {law : Law} {head : ℤ} → IsNodeLaw law → IsHead head → IsWithin (10 ^ 21) (rule_volume rule law head)
 rule_volume_within JunctionRule l h = within_up (within_quo_by 1_000 (within_mul (within_between l.area_in) (within_sub h (invert_within l))) (le_number tt) tt) tt
 rule_volume_within FixedOutfall l h = record { within = omega arith }
 
-pub volume_within : {law : Law} {head : ℤ} → IsNodeLaw law → IsWithin (2 * 10 ^ 10) head → IsWithin (10 ^ 21) (volume_of law head)
+pub volume_within : {law : Law} {head : ℤ} → IsNodeLaw law → IsHead head → IsWithin (10 ^ 21) (volume_of law head)
 unfolding volume_of
 volume_within {law} l h = rule_volume_within law.rule l h
 

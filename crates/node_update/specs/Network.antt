@@ -2,7 +2,7 @@
 -- (User's Manual, appendix D; the ranges are this project's profile).
 use Rattle.std.specs.Prelude.{◌≡◌, ℕ, ◌^◌, ◌<◌, ◌≤◌, false, length, Option, Some, None, ℤ, pos}
 use Rattle.std.specs.List.{All}
-use Rattle.fixed_num.specs.Ranges.{IsBetween, IsWithin}
+use Rattle.fixed_num.specs.Ranges.{IsBetween, IsElevation, IsDepth, IsLeastArea}
 use Rattle.net_types.specs.declared.network.Link.{Link}
 use Rattle.net_types.specs.declared.network.LinkKind.{LinkKind}
 use Rattle.net_types.specs.declared.network.LinkKind.TheVariants.{Conduit, Pump, Orifice, Weir}
@@ -20,20 +20,20 @@ use Rattle.net_types.specs.declared.project.Project.{Project}
 abbrev pub IsFixedStage : Stage → Type 0
 IsFixedStage Free = ⊥
 IsFixedStage Normal = ⊥
-IsFixedStage (Fixed level) = IsWithin (10 ^ 10) level
+IsFixedStage (Fixed level) = IsElevation level
 IsFixedStage (Tidal curve) = ⊥
 IsFixedStage (Series series) = ⊥
 
 -- a junction, whose surcharge depth is 0 to 10^9 µm, or an outfall of fixed stage
 abbrev pub IsNodeKind : NodeKind → Type 0
-IsNodeKind (Junction surcharge pond) = IsBetween (pos 0) surcharge (pos (10 ^ 9))
+IsNodeKind (Junction surcharge pond) = IsDepth surcharge
 IsNodeKind (Outfall stage gated) = IsFixedStage stage
 IsNodeKind (Storage shape) = ⊥
 
 -- a node: its invert is within 10^10 µm, its greatest depth 0 to 10^9 µm
 pub record IsNode (node : Node) : Type 0 where
-  pub invert : IsWithin (10 ^ 10) node.invert
-  pub y_max : IsBetween (pos 0) node.y_max (pos (10 ^ 9))
+  pub invert : IsElevation node.invert
+  pub y_max : IsDepth node.y_max
   pub kind : IsNodeKind node.kind
 
 -- the numbers of a conduit: length 10^4 to 10^11 µm, roughness 1,000 to 10^6 millionths, offsets 0 to 10^9 µm, greatest
@@ -41,8 +41,8 @@ pub record IsNode (node : Node) : Type 0 where
 pub record HasConduitSizes (long n6 z1 z2 q_max entry6 exit6 avg6 : ℤ) : Type 0 where
   pub long_in : IsBetween (pos (10 ^ 4)) long (pos (10 ^ 11))
   pub roughness_in : IsBetween (pos 1_000) n6 (pos (10 ^ 6))
-  pub first_offset_in : IsBetween (pos 0) z1 (pos (10 ^ 9))
-  pub second_offset_in : IsBetween (pos 0) z2 (pos (10 ^ 9))
+  pub first_offset_in : IsDepth z1
+  pub second_offset_in : IsDepth z2
   pub most_in : IsBetween (pos 0) q_max (pos (10 ^ 12))
   pub no_entry : entry6 ≡ pos 0
   pub no_exit : exit6 ≡ pos 0
@@ -73,8 +73,8 @@ pub record HasEnds (nodes : ℕ) (link : Link) : Type 0 where
 
 -- a least surface area of 10^4 to 10^13 mm², a head tolerance of 0 to 10^9 µm, no ponding, and full damping
 pub record AreNetworkOptions (options : Options) : Type 0 where
-  pub area_in : IsBetween (pos (10 ^ 4)) options.min_area (pos (10 ^ 13))
-  pub tolerance_in : IsBetween (pos 0) options.tolerance (pos (10 ^ 9))
+  pub area_in : IsLeastArea options.min_area
+  pub tolerance_in : IsDepth options.tolerance
   pub no_ponding : options.ponding ≡ false
   pub damped : options.damping ≡ Full
 

@@ -2,7 +2,7 @@
 use Rattle.std.specs.Prelude.{◌≡◌, ℕ, ◌*◌, ◌^◌, eqb, if◌then◌else◌, List, [], ◌∷◌, map, slice_index_or, Option, Some, None, ℤ, pos, ◌+ℤ◌, ◌≤ℤ◌, ◌⊎◌}
 use Rattle.std.specs.Int.{int_max}
 use Rattle.std.specs.List.{All, Contains}
-use Rattle.fixed_num.specs.Ranges.{IsBetween, IsWithin}
+use Rattle.fixed_num.specs.Ranges.{IsBetween, IsElevation, IsDepth, IsLeastArea}
 use Rattle.net_types.specs.declared.network.Link.{Link}
 use Rattle.net_types.specs.declared.network.LinkKind.{LinkKind}
 use Rattle.net_types.specs.declared.network.LinkKind.TheVariants.{Conduit, Pump, Orifice, Weir}
@@ -103,8 +103,8 @@ node_law_of project k =
 -- the ranges of every node's law: an invert within 10^10 µm, a full height of 0 to 2·10^9 µm, a top 0 to 3·10^9 µm above
 -- the invert, a least area of 10^4 to 10^13 mm² and a tolerance of 0 to 10^9 µm (this project's profile)
 pub record IsNodeLaw (law : Law) : Type 0 where
-  pub invert_in : IsWithin (10 ^ 10) law.invert
+  pub invert_in : IsElevation law.invert
   pub full_in : IsBetween (pos 0) law.full (pos (2 * 10 ^ 9))
   pub top_in : IsBetween law.invert law.top (law.invert +ℤ pos (3 * 10 ^ 9))
-  pub area_in : IsBetween (pos (10 ^ 4)) law.min_area (pos (10 ^ 13))
-  pub tolerance_in : IsBetween (pos 0) law.tolerance (pos (10 ^ 9))
+  pub area_in : IsLeastArea law.min_area
+  pub tolerance_in : IsDepth law.tolerance

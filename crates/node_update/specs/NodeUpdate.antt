@@ -3,7 +3,7 @@
 use Rattle.std.specs.Prelude.{◌*◌, ◌^◌, Bool, true, if◌then◌else◌, ℤ, pos, ◌+ℤ◌, ◌-ℤ◌, ◌*ℤ◌, int_le, int_lt, int_div}
 use Rattle.std.specs.Int.{int_max}
 use Rattle.std.specs.Int.RustNames.{unsigned_abs}
-use Rattle.fixed_num.specs.Ranges.{IsWithin, cut_of, IsFlow, IsStepLength}
+use Rattle.fixed_num.specs.Ranges.{IsWithin, cut_of, IsFlow, IsStepLength, IsHead}
 use Rattle.fixed_num.specs.Rounding.{quo_of}
 use Rattle.phase_law.specs.declared.values.NodeFixed.{NodeFixed}
 use Rattle.phase_law.specs.declared.values.NodeNext.{NodeNext}
@@ -13,10 +13,10 @@ use Rattle.node_update.specs.declared.node_law.NodeLaw.{NodeLaw as Law}
 
 -- what stays the same for a node over a step, in range, where heads and stages are within 2·10^10 µm
 pub record IsNodeFixed (fixed : NodeFixed) : Type 0 where
-  pub head : IsWithin (2 * 10 ^ 10) fixed.h_old
+  pub head : IsHead fixed.h_old
   pub net : IsWithin (3 * 10 ^ 16) fixed.net_old
   pub lateral : IsFlow fixed.lateral
-  pub stage : IsWithin (2 * 10 ^ 10) fixed.stage
+  pub stage : IsHead fixed.stage
   pub length : IsStepLength fixed.dt
 
 -- the net inflow at the end of a step, in cm³/s

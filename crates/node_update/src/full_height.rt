@@ -2,7 +2,7 @@
 ghost use Rattle.std.specs.Prelude.{◌≡◌, ℕ, ◌*◌, ◌^◌, ◌<◌, length, ℤ, pos};
 ghost use Rattle.std.specs.Int.{int_max};
 ghost use Rattle.std.specs.List.{All};
-ghost use Rattle.fixed_num.specs.Ranges.{IsBetween};
+ghost use Rattle.fixed_num.specs.Ranges.{IsBetween, IsDepth};
 ghost use Rattle.node_update.specs.Network.{IsNetwork, IsConduitKind, HasSection, IsLink};
 ghost use Rattle.node_update.specs.NodeLaws.{first_offset, second_offset, section_height, end_top, link_top, highest_top};
 ghost use Rattle.net_types.specs.Records.{node_at};
@@ -50,7 +50,7 @@ fn link_top(node: u32, link: &Link) -> i64
 fn section_height(section: &Option<Section>) -> i64
     requires section { HasSection section.now }
     ensures value { result ≡ section_height section.now }
-    ensures range { IsBetween (pos 0) result (pos (10 ^ 9)) }
+    ensures range { IsDepth result }
 {
     match section {
         Some(section) => section.full,
@@ -62,7 +62,7 @@ fn section_height(section: &Option<Section>) -> i64
 fn first_offset(kind: &LinkKind) -> i64
     requires kind { IsConduitKind kind.now }
     ensures value { result ≡ first_offset kind.now }
-    ensures range { IsBetween (pos 0) result (pos (10 ^ 9)) }
+    ensures range { IsDepth result }
 {
     match kind {
         LinkKind::Conduit { z1, .. } => *z1,
@@ -74,7 +74,7 @@ fn first_offset(kind: &LinkKind) -> i64
 fn second_offset(kind: &LinkKind) -> i64
     requires kind { IsConduitKind kind.now }
     ensures value { result ≡ second_offset kind.now }
-    ensures range { IsBetween (pos 0) result (pos (10 ^ 9)) }
+    ensures range { IsDepth result }
 {
     match kind {
         LinkKind::Conduit { z2, .. } => *z2,
@@ -84,8 +84,8 @@ fn second_offset(kind: &LinkKind) -> i64
 
 // How high the top of a link stands at this end of it, if the end is at the node, in µm.
 fn end_top(node: u32, end: u32, offset: i64, full: i64) -> i64
-    requires offset { IsBetween (pos 0) offset (pos (10 ^ 9)) }
-    requires full { IsBetween (pos 0) full (pos (10 ^ 9)) }
+    requires offset { IsDepth offset }
+    requires full { IsDepth full }
     ensures value { result ≡ end_top node end offset full }
     ensures range { IsBetween (pos 0) result (pos (2 * 10 ^ 9)) }
 {

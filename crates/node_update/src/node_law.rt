@@ -1,6 +1,6 @@
 // The law of a node.
 ghost use Rattle.std.specs.Prelude.{◌≡◌, ◌*◌, ◌^◌, ◌<◌, length, ℤ, pos};
-ghost use Rattle.fixed_num.specs.Ranges.{IsBetween, IsWithin};
+ghost use Rattle.fixed_num.specs.Ranges.{IsBetween, IsElevation, IsDepth};
 ghost use Rattle.node_update.specs.Network.{IsNetwork, IsNodeKind, AreNetworkOptions};
 ghost use Rattle.node_update.specs.NodeLaws.{IsNodeLaw, junction_law, kind_law, node_law_of, outfall_law};
 
@@ -49,7 +49,7 @@ impl NodeLaw {
 // The law of a node of this kind.
 fn kind_law(kind: &NodeKind, invert: i64, full: i64, options: &Options) -> NodeLaw
     requires kind { IsNodeKind kind.now }
-    requires invert { IsWithin (10 ^ 10) invert }
+    requires invert { IsElevation invert }
     requires full { IsBetween (pos 0) full (pos (2 * 10 ^ 9)) }
     requires options { AreNetworkOptions options.now }
     ensures value { result ≡ kind_law kind.now invert full options.now }
@@ -63,8 +63,8 @@ fn kind_law(kind: &NodeKind, invert: i64, full: i64, options: &Options) -> NodeL
 
 // The law of a junction of this surcharge depth.
 fn junction_law(surcharge: i64, invert: i64, full: i64, options: &Options) -> NodeLaw
-    requires surcharge { IsBetween (pos 0) surcharge (pos (10 ^ 9)) }
-    requires invert { IsWithin (10 ^ 10) invert }
+    requires surcharge { IsDepth surcharge }
+    requires invert { IsElevation invert }
     requires full { IsBetween (pos 0) full (pos (2 * 10 ^ 9)) }
     requires options { AreNetworkOptions options.now }
     ensures value { result ≡ junction_law invert full surcharge options.now }
@@ -82,7 +82,7 @@ fn junction_law(surcharge: i64, invert: i64, full: i64, options: &Options) -> No
 
 // The law of an outfall of fixed stage.
 fn outfall_law(invert: i64, options: &Options) -> NodeLaw
-    requires invert { IsWithin (10 ^ 10) invert }
+    requires invert { IsElevation invert }
     requires options { AreNetworkOptions options.now }
     ensures value { result ≡ outfall_law invert options.now }
     ensures range { IsNodeLaw result }

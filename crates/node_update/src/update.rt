@@ -2,7 +2,7 @@
 ghost use Rattle.std.specs.Prelude.{◌≡◌, ◌*◌, ◌^◌, true, ℤ, pos, ◌≤ℤ◌};
 ghost use Rattle.std.specs.Int.{int_max};
 ghost use Rattle.std.specs.Int.RustNames.{unsigned_abs};
-ghost use Rattle.fixed_num.specs.Ranges.{IsBetween, IsWithin};
+ghost use Rattle.fixed_num.specs.Ranges.{IsBetween, IsWithin, IsHead};
 ghost use Rattle.node_update.specs.NodeLaws.{IsNodeLaw};
 ghost use Rattle.node_update.specs.NodeUpdate.{IsNodeFixed, gain_of, relaxed_of, junction_head, has_settled, rule_next, next_of, rule_flood, flood_of, rule_volume, volume_of};
 ghost use Rattle.node_update.specs.declared.node_law.HeadRule.TheVariants.{Junction as JunctionRule};
@@ -31,9 +31,9 @@ impl NodeLaw {
         requires law { IsNodeLaw self.now }
         requires fixed { IsNodeFixed fixed.now }
         requires sums { SumsInRange inflow outflow area }
-        requires last { IsWithin (2 * 10 ^ 10) last }
+        requires last { IsHead last }
         ensures value { result ≡ next_of self.now fixed.now first inflow outflow area last }
-        ensures range { IsWithin (2 * 10 ^ 10) result.head }
+        ensures range { IsHead result.head }
         // A junction whose last head was not above its top stays there.
         ensures place { self.now.rule ≡ JunctionRule → last ≤ℤ self.now.top → result.head ≤ℤ self.now.top }
     {
@@ -68,7 +68,7 @@ impl NodeLaw {
     /// Source: this project's profile.
     pub fn volume(&self, head: i64) -> i128
         requires law { IsNodeLaw self.now }
-        requires head { IsWithin (2 * 10 ^ 10) head }
+        requires head { IsHead head }
         ensures value { result ≡ volume_of self.now head }
         ensures range { IsWithin (10 ^ 21) result }
     {
@@ -92,9 +92,9 @@ impl NodeLaw {
         requires law { IsNodeLaw self.now }
         requires fixed { IsNodeFixed fixed.now }
         requires sums { SumsInRange inflow outflow area }
-        requires last { IsWithin (2 * 10 ^ 10) last }
+        requires last { IsHead last }
         ensures value { result ≡ rule_next JunctionRule self.now fixed.now first inflow outflow area last }
-        ensures range { IsWithin (2 * 10 ^ 10) result.head }
+        ensures range { IsHead result.head }
         ensures place { last ≤ℤ self.now.top → result.head ≤ℤ self.now.top }
     {
         let head = self.junction_head(fixed, first, inflow, outflow, area, last);
@@ -118,9 +118,9 @@ impl NodeLaw {
         requires law { IsNodeLaw self.now }
         requires fixed { IsNodeFixed fixed.now }
         requires sums { SumsInRange inflow outflow area }
-        requires last { IsWithin (2 * 10 ^ 10) last }
+        requires last { IsHead last }
         ensures value { result ≡ junction_head self.now fixed.now first inflow outflow area last }
-        ensures range { IsWithin (2 * 10 ^ 10) result }
+        ensures range { IsHead result }
         ensures place { last ≤ℤ self.now.top → result ≤ℤ self.now.top }
     {
         let raised = self.raised(fixed, inflow, outflow, area);
@@ -134,7 +134,7 @@ impl NodeLaw {
         requires fixed { IsNodeFixed fixed.now }
         ensures head { result.head ≡ int_max self.now.invert fixed.now.stage }
         ensures settled { result.settled ≡ true }
-        ensures range { IsWithin (2 * 10 ^ 10) result.head }
+        ensures range { IsHead result.head }
     {
         NodeNext {
             head: self.invert.max(fixed.stage),
@@ -160,7 +160,7 @@ impl NodeLaw {
     // The volume of a junction.
     fn junction_volume(&self, head: i64) -> i128
         requires law { IsNodeLaw self.now }
-        requires head { IsWithin (2 * 10 ^ 10) head }
+        requires head { IsHead head }
         ensures value { result ≡ rule_volume JunctionRule self.now head }
         ensures range { IsWithin (10 ^ 21) result }
     {
@@ -170,10 +170,10 @@ impl NodeLaw {
 
 // The head of a trial: the new head in the first one, else the mean of it and the last.
 fn relaxed(first: bool, last: i64, new: i64) -> i64
-    requires last { IsWithin (2 * 10 ^ 10) last }
-    requires new { IsWithin (2 * 10 ^ 10) new }
+    requires last { IsHead last }
+    requires new { IsHead new }
     ensures value { result ≡ relaxed_of first last new }
-    ensures range { IsWithin (2 * 10 ^ 10) result }
+    ensures range { IsHead result }
 {
     if first {
         return new;
@@ -183,8 +183,8 @@ fn relaxed(first: bool, last: i64, new: i64) -> i64
 
 // Whether a head moved no further than the tolerance.
 fn has_settled(tolerance: i64, last: i64, new: i64) -> bool
-    requires last { IsWithin (2 * 10 ^ 10) last }
-    requires new { IsWithin (2 * 10 ^ 10) new }
+    requires last { IsHead last }
+    requires new { IsHead new }
     ensures { result ≡ has_settled tolerance last new }
 {
     (new - last).abs() <= tolerance

@@ -1,3 +1,6 @@
-pub mod ReachLemmas
-pub mod ProfileLemmas
+pub mod GreatestLemmas
+pub mod HeightLemmas
+pub mod EndsLemmas
+pub mod CutLemmas
 pub mod FaultLemmas
+pub mod LawLemmas

@@ -1,5 +1,8 @@
-pub mod IsRead
 pub mod Times
 pub mod Network
-pub mod Profile
+pub mod FullHeight
+pub mod Ends
+pub mod Objects
 pub mod ProjectFaults
+pub mod Faultless
+pub mod Tables

@@ -1,74 +1,94 @@
 // The faults of a project.
-ghost use Rattle.std.specs.Prelude.{◌≡◌, ◌==◌, not, ◌&&◌, length, ◌++◌, List as Sequence, IfOk, OnOk, IsTrue, ◌↔◌};
-ghost use Rattle.net_types.specs.declared.network.Node.{Node};
-ghost use Rattle.net_types.specs.declared.options.Options.{Options};
-ghost use Rattle.net_types.specs.declared.project.Project.{Project as WholeProject};
-ghost use Rattle.project_check.specs.IsRead.{IsRead};
-ghost use Rattle.project_check.specs.Network.{HasOutfall, has_outfall as has_an_outfall};
-ghost use Rattle.project_check.specs.Profile.{IsInProfile, is_in_profile as is_in_the_profile};
-ghost use Rattle.project_check.specs.ProjectFaults.{fault_where, project_faults};
-ghost use Rattle.project_check.specs.Times.{EndsBeforeStart, IsOverLimit, ends_before_start as is_early, is_over_limit as is_too_long};
+ghost use Rattle.std.specs.Prelude.{◌≡◌, ◌++◌, ◌∷◌, [], ◌≤◌, not, length, take, IfOk, OnOk};
+ghost use Rattle.net_types.specs.Sound.{IsSound};
+ghost use Rattle.project_check.specs.ProjectFaults.{fault_of, fault_where, general_faults, project_faults};
+ghost use Rattle.project_check.specs.Tables.{HasTables};
 
+use crate::ends::node_ends;
+use crate::links::check_links;
 use crate::network::has_outfall;
-use crate::profile::is_in_profile;
+use crate::nodes::check_nodes;
+use crate::subs::check_subs;
 use crate::times::{ends_before_start, is_over_limit};
-use net_types::{List, OutOfMemory, Project, ProjectFault, Text};
+use net_types::{FaultKind, List, OutOfMemory, Project, ProjectFault, Text};
 use std::alloc::Global;
 
-/// The faults of a project, in their order and at most 100: an empty list exactly where it can be run.
+// The most faults that are told.
+const MOST_FAULTS: usize = 100;
+
+/// The faults of a sound project, in their order and at most 100: an empty list exactly where it has none.
 ///
-/// 145 stands where there is no outfall, 191 where the run ends before it starts, 402 where it lasts more than 3,660
-/// days or takes more than 50,000,000 routing steps. Where none of these stands, 401 does unless the network is one
-/// reach that can be routed with full damping. None of them has a name. The only error is want of memory.
+/// Without a name: 145 where there is no outfall, 191 where the run ends before it starts, 402 where it lasts more than
+/// 3,660 days or takes more than 50,000,000 routing steps. Then at most one of each object: of a node 141 (an outfall
+/// with more than one link or with one that begins there), 138 (it begins higher than full) or 403 (a storage less than
+/// 1,000 µm deep); of a link 403 (equal ends, no section where it needs one, a shape that doesn't fit its kind, or a
+/// full area of 0 or above 10^11 mm²); of a subcatchment 403 (no subareas, no infiltration, or a least rate above the
+/// greatest). The only error is want of memory.
 ///
-/// Source: User's Manual, appendix E (145, 191); the limits and 401 are this project's profile.
+/// Source: User's Manual, appendix E (138, 141, 145, 191); the others and the limits are this project's profile.
 pub fn check(alloc: Global, project: &Project) -> Result<List<ProjectFault>, OutOfMemory>
-    requires { IsRead project.now }
+    requires sound { IsSound project.now }
+    requires tables { HasTables project.now }
     ensures { IfOk result (λ faults. faults ≡ project_faults project.now) }
 {
     let mut faults = List::new(alloc);
-    let options = &project.options;
-    push_where(
-        alloc,
-        &mut faults,
-        !has_outfall(project.nodes.as_slice()),
-        145,
-    )?;
-    push_where(alloc, &mut faults, ends_before_start(options), 191)?;
-    push_where(alloc, &mut faults, is_over_limit(options), 402)?;
-    let out = is_only_out_of_profile(faults.as_slice(), project);
-    push_where(alloc, &mut faults, out, 401)?;
+    check_whole(alloc, project, &mut faults)?;
+    let ends = node_ends(alloc, project)?;
+    check_nodes(alloc, project.nodes.as_slice(), ends.as_slice(), &mut faults)?;
+    check_links(alloc, project.links.as_slice(), &mut faults)?;
+    check_subs(alloc, project.subs.as_slice(), &mut faults)?;
     Ok(faults)
 }
 
-/// Each test of a project is true exactly where the fact that it is named for holds.
-pub fn tests_tell_facts()
-    ensures outfall { (nodes : Sequence Node) → IsTrue (has_an_outfall nodes) ↔ HasOutfall nodes }
-    ensures early { (options : Options) → IsTrue (is_early options) ↔ EndsBeforeStart options }
-    ensures limit { (options : Options) → IsTrue (is_too_long options) ↔ IsOverLimit options }
-    ensures profile { (project : WholeProject) → IsTrue (is_in_the_profile project) ↔ IsInProfile project }
-{}
-
-// Whether a project has none of these faults, and cannot be routed.
-fn is_only_out_of_profile(faults: &[ProjectFault], project: &Project) -> bool
-    requires { IsRead project.now }
-    ensures { result ≡ (length faults.now == 0) && not (is_in_the_profile project.now) }
+// Adds the faults of the project as a whole.
+fn check_whole(
+    alloc: Global,
+    project: &Project,
+    faults: &mut List<ProjectFault>,
+) -> Result<(), OutOfMemory>
+    requires sound { IsSound project.now }
+    requires none { faults.old ≡ [] }
+    ensures { OnOk result (faults.new ≡ general_faults project.now) }
 {
-    faults.is_empty() && !is_in_profile(project)
+    let options = &project.options;
+    add_where(alloc, faults, !has_outfall(project.nodes.as_slice()), FaultKind::NoOutfall)?;
+    add_where(alloc, faults, ends_before_start(options), FaultKind::EndBeforeStart)?;
+    add_where(alloc, faults, is_over_limit(options), FaultKind::OverLimit)?;
+    Ok(())
 }
 
-// Appends the nameless fault of this number where it stands.
-fn push_where(
+// Adds a fault without a name where it stands.
+fn add_where(
     alloc: Global,
     faults: &mut List<ProjectFault>,
     stands: bool,
-    number: u32,
+    kind: FaultKind,
 ) -> Result<(), OutOfMemory>
-    ensures { OnOk result (faults.new ≡ faults.old ++ fault_where stands number) }
+    ensures { OnOk result (faults.new ≡ faults.old ++ fault_where stands kind []) }
 {
     if stands {
         let name = Text::from_slice(alloc, b"")?;
+        let number = kind.number();
         faults.push(ProjectFault { number, name })?;
     }
+    Ok(())
+}
+
+/// Adds the fault of an object, unless there are 100 already.
+pub(crate) fn add_fault(
+    alloc: Global,
+    faults: &mut List<ProjectFault>,
+    kind: FaultKind,
+    name: &Text,
+) -> Result<(), OutOfMemory>
+    requires room { length faults.old ≤ 100 }
+    ensures { OnOk result (faults.new ≡ take 100 (faults.old ++ fault_of kind name.now ∷ [])) }
+{
+    if faults.as_slice().len() >= MOST_FAULTS {
+        return Ok(());
+    }
+    let name = Text::from_slice(alloc, name.as_slice())?;
+    let number = kind.number();
+    faults.push(ProjectFault { number, name })?;
     Ok(())
 }

@@ -1,17 +1,22 @@
 //! The faults of a whole project, which come where no line of its input is at fault.
 //!
-//! The contract that matters: [`check`] gives exactly the list that `specs/ProjectFaults.antt` defines: 145 where
-//! there is no outfall, 191 where the run ends before it starts, 402 where it is over a limit, and, only where none
-//! of these stands, 401 where the project is not one reach that can be routed with full damping. Each test that this
-//! list is made of is equal to a plain fact (`HasOutfall`, `EndsBeforeStart`, `IsOverLimit`, `IsInProfile` of
-//! `specs/`): [`tests_tell_facts`]. What a caller has to know of the project is `specs/IsRead.antt`.
+//! The contract that matters: [`check`] gives exactly the list that `specs/ProjectFaults.antt` defines: no outfall, an
+//! end before the start, a run over a limit; then at most one fault of each node, link and subcatchment
+//! (`specs/Objects.antt`). A sound project whose list is empty is faultless (`specs/Faultless.antt`), and
+//! [`faultless_is_good`] says what that means of its times, nodes, links and subcatchments: every crate above asks for
+//! a faultless project and derives what it needs from that. [`tests_tell_facts`] says that the tests which the list is
+//! made of are equal to plain facts.
 #![tactic(auto)]
 
+mod ends;
 mod faults;
+mod laws;
+mod links;
 mod network;
-mod profile;
-#[cfg(test)]
-mod tests;
+mod nodes;
+mod subs;
 mod times;
 
-pub use faults::{check, tests_tell_facts};
+pub use ends::{NodeEnds, full_heights, node_ends};
+pub use faults::check;
+pub use laws::{faultless_is_good, greatest_is_greatest, tests_tell_facts};

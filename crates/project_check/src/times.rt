@@ -1,6 +1,6 @@
 // The times of a run.
 ghost use Rattle.std.specs.Prelude.{◌≡◌, int_lt};
-ghost use Rattle.project_check.specs.IsRead.{AreReadOptions};
+ghost use Rattle.net_types.specs.Ranges.{OptionsInRange};
 ghost use Rattle.project_check.specs.Times.{duration, ends_before_start, is_over_limit};
 
 use net_types::Options;
@@ -18,7 +18,7 @@ pub(crate) fn ends_before_start(options: &Options) -> bool
 
 // Whether a run lasts too long, or takes too many steps.
 pub(crate) fn is_over_limit(options: &Options) -> bool
-    requires { AreReadOptions options.now }
+    requires { OptionsInRange options.now }
     ensures { result ≡ is_over_limit options.now }
 {
     lasts_longer(options, LONGEST_MS) || lasts_longer(options, MOST_STEPS * options.step_ms)
@@ -26,7 +26,7 @@ pub(crate) fn is_over_limit(options: &Options) -> bool
 
 // Whether a run lasts longer than a time, in ms.
 fn lasts_longer(options: &Options, time: i64) -> bool
-    requires { AreReadOptions options.now }
+    requires { OptionsInRange options.now }
     ensures { result ≡ int_lt time (duration options.now) }
 {
     time < options.finish - options.start

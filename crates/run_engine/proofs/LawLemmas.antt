@@ -2,7 +2,7 @@
 use Rattle.std.proofs.Common.{◌≡◌, ℕ, ◌*◌, ◌^◌, ◌<◌, ℤ, length, subst, arith}
 use Rattle.std.proofs.lemmas.List.{length-map}
 use Rattle.std.proofs.lemmas.List.FromFn.{get_or-map-range_with_len, length-map-range_with_len}
-use Rattle.fixed_num.specs.Ranges.{IsWithin}
+use Rattle.fixed_num.specs.Ranges.{IsHead}
 use Rattle.link_eval.specs.Good.{IsGood}
 use Rattle.link_eval.specs.LawGood.{law_good}
 use Rattle.link_eval.specs.declared.hydraulics.Hydraulics.{Hydraulics}
@@ -30,11 +30,11 @@ pub project_law_good : (project : Project) → IsGood (hydraulics_of project) �
 project_law_good project good = law_good (hydraulics_of project) good
 
 -- heads are within 2·10^10 µm
-pub head_within : (h : Hydraulics) {head : ℤ} → HeadInRange (law_of h) head → IsWithin (2 * 10 ^ 10) head
+pub head_within : (h : Hydraulics) {head : ℤ} → HeadInRange (law_of h) head → IsHead head
 unfolding law_of
 head_within h r = record { within = r.within }
 
-pub head_in : (h : Hydraulics) {head : ℤ} → IsWithin (2 * 10 ^ 10) head → HeadInRange (law_of h) head
+pub head_in : (h : Hydraulics) {head : ℤ} → IsHead head → HeadInRange (law_of h) head
 unfolding law_of
 head_in h r = record { within = r.within }
 

@@ -4,7 +4,7 @@ use Rattle.std.proofs.lemmas.Int.{ints}
 use Rattle.std.proofs.lemmas.List.{get_or-replicate, length-replicate}
 use Rattle.std.proofs.lemmas.List.Elements.{All-get_or}
 use Rattle.std.proofs.lemmas.List.FromFn.{length-map-range_with_len}
-use Rattle.fixed_num.specs.Ranges.{IsBetween, IsWithin, IsFlow, IsStepLength}
+use Rattle.fixed_num.specs.Ranges.{IsFlow, IsStepLength, IsHead, IsElevation, IsDepth}
 use Rattle.fixed_num.proofs.Bounds.{le_number, within_add, within_between, within_cut, within_max, within_minus, within_number, within_up}
 use Rattle.link_eval.specs.Good.{IsGood}
 use Rattle.link_eval.specs.declared.hydraulics.Hydraulics.{Hydraulics}
@@ -33,19 +33,19 @@ use Rattle.run_engine.specs.States.{kind_head, level_of, no_pipe, opening, openi
 use Rattle.run_engine.proofs.LawLemmas.{head_in, law_links, law_nodes, project_law_good}
 
 -- ---- ranges of a node's parts
-level_within : (stage : Stage) → IsFixedStage stage → IsWithin (10 ^ 10) (level_of stage)
+level_within : (stage : Stage) → IsFixedStage stage → IsElevation (level_of stage)
 level_within (Fixed level) h = h
 level_within Free h = absurd h
 level_within Normal h = absurd h
 level_within (Tidal curve) h = absurd h
 level_within (Series series) h = absurd h
 
-stage_within : (kind : NodeKind) → IsNodeKind kind → IsWithin (10 ^ 10) (stage_of kind)
+stage_within : (kind : NodeKind) → IsNodeKind kind → IsElevation (stage_of kind)
 stage_within (Outfall stage gated) h = level_within stage h
 stage_within (Junction surcharge pond) h = within_up (within_number 0) tt
 stage_within (Storage shape) h = absurd h
 
-open_within : (kind : NodeKind) {invert y0 : ℤ} → IsNodeKind kind → IsWithin (10 ^ 10) invert → IsBetween (pos 0) y0 (pos (10 ^ 9)) → IsWithin (2 * 10 ^ 10) (kind_head kind invert y0)
+open_within : (kind : NodeKind) {invert y0 : ℤ} → IsNodeKind kind → IsElevation invert → IsDepth y0 → IsHead (kind_head kind invert y0)
 open_within (Outfall stage gated) h i y = within_up (within_max i (level_within stage h)) tt
 open_within (Junction surcharge pond) h i y = within_up (within_add i (within_between y)) tt
 open_within (Storage shape) h i y = absurd h
@@ -59,10 +59,10 @@ module _ {project : Project} (r : IsRunnable project) where
   is_node : (n : ℕ) → n < length project.nodes → IsNode (node_of project.nodes n)
   is_node n inside = All-get_or IsNode project.nodes n no_project_node inside r.hydraulic.network.nodes
 
-  pub stage_in : (n : ℕ) → n < length project.nodes → IsWithin (2 * 10 ^ 10) (stage_of (node_of project.nodes n).kind)
+  pub stage_in : (n : ℕ) → n < length project.nodes → IsHead (stage_of (node_of project.nodes n).kind)
   stage_in n inside = within_up (stage_within (node_of project.nodes n).kind (is_node n inside).kind) tt
 
-  opened_within : (n : ℕ) → n < length project.nodes → IsWithin (2 * 10 ^ 10) (opening_head (node_of project.nodes n))
+  opened_within : (n : ℕ) → n < length project.nodes → IsHead (opening_head (node_of project.nodes n))
   opened_within n inside =
       let node = is_node n inside in
       open_within (node_of project.nodes n).kind node.kind node.invert (All-get_or HasInitialDepth project.nodes n no_project_node inside r.depths)
@@ -98,7 +98,7 @@ no_link_in = record {
   length = no_length;
 }
 
-zero_within : IsWithin (2 * 10 ^ 10) (pos 0)
+zero_within : IsHead (pos 0)
 zero_within = within_up (within_number 0) tt
 
 amounts_in : {x y z : ℤ} (inflow outflow : ℕ) → x ≡ pos inflow → y ≡ pos outflow → z ≡ pos 0 → inflow ≤ 2 * 10 ^ 16 → outflow ≤ 2 * 10 ^ 16

@@ -4,7 +4,7 @@ use Rattle.std.proofs.lemmas.Bool.{cases_lt}
 use Rattle.std.proofs.lemmas.Int.{ints}
 use Rattle.std.proofs.lemmas.List.{length-map, length-replicate, get_or-map, get_or-replicate, get_or_past}
 use Rattle.std.proofs.lemmas.List.FromFn.{fill_by_all, get_or-map-range_with_len, length-map-range_with_len}
-use Rattle.fixed_num.specs.Ranges.{IsWithin}
+use Rattle.fixed_num.specs.Ranges.{IsHead, IsFlow}
 use Rattle.net_types.specs.declared.network.Node.{Node}
 use Rattle.net_types.specs.declared.project.Project.{Project}
 use Rattle.net_types.specs.Records.{node_at, no_node}
@@ -77,13 +77,13 @@ unfolding link_summaries
 links_are project k figures sums = rw (sums.states, sums.links) at sums.summaries.links
 
 -- ---- what a state gives to the summaries, in range
-pub head_at : (h : Hydraulics) (heads : List ℤ) → HeadsFit (law_of h) heads → (n : ℕ) → IsWithin (2 * 10 ^ 10) (number heads n)
+pub head_at : (h : Hydraulics) (heads : List ℤ) → HeadsFit (law_of h) heads → (n : ℕ) → IsHead (number heads n)
 head_at h heads fit n = elim (cases_lt n (length heads)) [
   | inl less ↦ head_within h (fit.each n (omega (arith, less, fit.count)))
   | inr past ↦ rw (get_or_past heads n (pos 0) (omega (arith, past))) (record { within = omega (arith, ints) })
 ]
 
-pub flow_at : (h : Hydraulics) (flows : List ℤ) → FlowsFit (law_of h) flows → (l : ℕ) → IsWithin (10 ^ 12) (number flows l)
+pub flow_at : (h : Hydraulics) (flows : List ℤ) → FlowsFit (law_of h) flows → (l : ℕ) → IsFlow (number flows l)
 flow_at h flows fit l = elim (cases_lt l (length flows)) [
   | inl less ↦ let f = fit.each l (omega (arith, less, fit.count)) in record { within = f.within }
   | inr past ↦ rw (get_or_past flows l (pos 0) (omega (arith, past))) (record { within = omega (arith, ints) })

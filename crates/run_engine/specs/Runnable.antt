@@ -2,7 +2,7 @@
 use Rattle.std.specs.Prelude.{◌≡◌, ℕ, ◌%◌, ◌^◌, ◌<◌, ◌≤◌, length, pos, ◌*ℤ◌, ◌≤ℤ◌}
 use Rattle.std.specs.Int.RustNames.{unsigned_abs}
 use Rattle.std.specs.List.{All}
-use Rattle.fixed_num.specs.Ranges.{IsBetween, IsFlow}
+use Rattle.fixed_num.specs.Ranges.{IsBetween, IsFlow, IsDepth}
 use Rattle.net_types.specs.declared.network.Link.{Link}
 use Rattle.net_types.specs.declared.network.Node.{Node}
 use Rattle.net_types.specs.declared.options.Options.{Options}
@@ -30,7 +30,7 @@ pub record AreRunOptions (options : Options) : Type 0 where
 
 -- a node's initial depth is 0 to 10^9 µm
 abbrev pub HasInitialDepth : Node → Type 0
-HasInitialDepth node = IsBetween (pos 0) node.y0 (pos (10 ^ 9))
+HasInitialDepth node = IsDepth node.y0
 
 -- a link's initial flow is within 10^12 cm³/s
 abbrev pub HasInitialFlow : Link → Type 0

@@ -1,7 +1,7 @@
 // The opening state of a run.
 ghost use Rattle.std.specs.Prelude.{◌≡◌, ◌<◌, ◌≤◌, ◌^◌, length, pos, IfOk};
 ghost use Rattle.std.specs.List.{All};
-ghost use Rattle.fixed_num.specs.Ranges.{IsBetween, IsWithin};
+ghost use Rattle.fixed_num.specs.Ranges.{IsElevation, IsDepth};
 ghost use Rattle.link_eval.specs.Hydraulics.{hydraulics_of};
 ghost use Rattle.node_update.specs.Network.{IsFixedStage, IsNode, IsNodeKind};
 ghost use Rattle.net_types.specs.Records.{node_at as node_of};
@@ -76,8 +76,8 @@ fn open_head(nodes: &[Node], n: usize) -> i64
 // The initial head of a node of this kind, in µm.
 fn kind_head(kind: &NodeKind, invert: i64, y0: i64) -> i64
     requires kind { IsNodeKind kind.now }
-    requires invert { IsWithin (10 ^ 10) invert }
-    requires y0 { IsBetween (pos 0) y0 (pos (10 ^ 9)) }
+    requires invert { IsElevation invert }
+    requires y0 { IsDepth y0 }
     ensures { result ≡ kind_head kind.now invert y0 }
 {
     match kind {

@@ -2,7 +2,7 @@
 use Rattle.std.proofs.Common.{◌≡◌, ℕ, ◌+◌, ◌*◌, ◌^◌, ◌<◌, ◌≤◌, List, [], ◌∷◌, ◌++◌, length, take, get_or, ℤ, pos, ◌+ℤ◌, ◌*ℤ◌, refl, sym, arith}
 use Rattle.std.proofs.lemmas.Int.{ints}
 use Rattle.std.proofs.lemmas.List.{take_more}
-use Rattle.fixed_num.specs.Ranges.{IsWithin}
+use Rattle.fixed_num.specs.Ranges.{IsWithin, IsRaw}
 use Rattle.fixed_num.specs.Rounding.{quo_of}
 use Rattle.fixed_num.proofs.Bounds.{within_mul, within_number, within_up, within_quo_by}
 use Rattle.inp_values.specs.Units.{flow_num, flow_den, unit_for}
@@ -18,7 +18,7 @@ pub den_of : (units : FlowUnits) → (unit_for units Flow).den ≡ flow_den unit
 unfolding unit_for
 den_of units = refl
 
-pub product_within : {base : ℤ} {n : ℕ} → IsWithin (10 ^ 15) base → n ≤ 10 ^ 11 → IsWithin (10 ^ 26) (base *ℤ pos n)
+pub product_within : {base : ℤ} {n : ℕ} → IsRaw base → n ≤ 10 ^ 11 → IsWithin (10 ^ 26) (base *ℤ pos n)
 product_within {base} {n} b h = let p = within_mul b (within_number n) in record { within = omega (arith, p.within, h) }
 
 pub quotient_within : {a : ℤ} {d : ℕ} → IsWithin (10 ^ 26) a → 0 < d → IsWithin (10 ^ 20) (quo_of a (pos d *ℤ pos 1_000_000))

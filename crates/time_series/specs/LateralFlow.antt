@@ -1,7 +1,7 @@
 -- The lateral inflow of a node (User's Manual, section [INFLOWS]; the rounding is this project's profile).
 use Rattle.std.specs.Prelude.{◌≡◌, ℕ, ◌≤◌, ◌^◌, ◌==◌, List, [], ◌∷◌, length, None, if◌then◌else◌, ℤ, pos, neg_ℤ, ◌+ℤ◌, ◌*ℤ◌}
 use Rattle.std.specs.List.{All}
-use Rattle.fixed_num.specs.Ranges.{IsWithin, cut_of}
+use Rattle.fixed_num.specs.Ranges.{cut_of, IsRaw}
 use Rattle.fixed_num.specs.Rounding.{quo_of}
 use Rattle.inp_values.specs.Units.{flow_num, flow_den}
 use Rattle.net_types.specs.declared.inflows.Inflow.{Inflow}
@@ -12,7 +12,7 @@ use Rattle.net_types.specs.declared.project.Project.{Project}
 pub record IsConstant (inflow : Inflow) : Type 0 where
   pub series : inflow.series ≡ None
   pub pattern : inflow.pattern ≡ None
-  pub base : IsWithin (10 ^ 15) inflow.base6
+  pub base : IsRaw inflow.base6
 
 -- all inflows of a project are constant, and they are at most 20,000
 pub record HasConstantInflows (project : Project) : Type 0 where

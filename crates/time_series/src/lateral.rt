@@ -1,7 +1,7 @@
 // The lateral inflow of a node.
 ghost use Rattle.std.specs.Prelude.{◌≡◌, ◌≤◌, ◌^◌, length};
 ghost use Rattle.std.specs.List.{All};
-ghost use Rattle.fixed_num.specs.Ranges.{IsWithin};
+ghost use Rattle.fixed_num.specs.Ranges.{IsWithin, IsFlow};
 ghost use Rattle.time_series.specs.LateralFlow.{HasConstantInflows, IsConstant, flow_of as flow_of_base, inflow_at as part_at, lateral_of, sum_over};
 
 use fixed_num::{cut, quo};
@@ -15,7 +15,7 @@ use net_types::{FlowUnits, Inflow, Project};
 pub fn lateral_flow(project: &Project, node: u32, _moment: i64) -> i64
     requires { HasConstantInflows project.now }
     ensures value { result ≡ lateral_of project.now node }
-    ensures range { IsWithin (10 ^ 12) result }
+    ensures range { IsFlow result }
 {
     let total = total_flow(project.options.units, project.inflows.as_slice(), node);
     cut(total, -1_000_000_000_000, 1_000_000_000_000) as i64

@@ -1,6 +1,6 @@
 use Rattle.std.proofs.Common.{◌<◌, ◌*◌, ◌^◌, subst, ℕ}
 use Rattle.std.proofs.lemmas.Int.{to_z-of_z}
-use Rattle.fixed_num.specs.Ranges.{IsWithin}
+use Rattle.fixed_num.specs.Ranges.{IsHead}
 use Rattle.fixed_num.proofs.Bounds.{fits64}
 use Rattle.link_eval.specs.Hydraulics.{law_of}
 use Rattle.link_eval.specs.LawGood.{law_good}
@@ -19,10 +19,10 @@ bounds-heads-first c = rw (c.as_slice-heads.ensures, c.requires.heads.count) (en
 pub bounds-heads-second : goal.bounds-heads-second
 bounds-heads-second c = rw (c.as_slice-heads.ensures, c.requires.heads.count) (ends (goal.at.bounds-heads-second c).After-as_slice-heads).second
 
-near : (c : After-as_slice-heads) → IsWithin (2 * 10 ^ 10) (number c.as_slice-heads.result.now c.ends-first.result.0)
+near : (c : After-as_slice-heads) → IsHead (number c.as_slice-heads.result.now c.ends-first.result.0)
 near c = rw c.as_slice-heads.ensures (head_in c.args.law.now.hydraulics (c.requires.heads.each c.ends-first.result.0 (ends c).first))
 
-far : (c : After-as_slice-heads) → IsWithin (2 * 10 ^ 10) (number c.as_slice-heads.result.now c.ends-first.result.1)
+far : (c : After-as_slice-heads) → IsHead (number c.as_slice-heads.result.now c.ends-first.result.1)
 far c = rw c.as_slice-heads.ensures (head_in c.args.law.now.hydraulics (c.requires.heads.each c.ends-first.result.1 (ends c).second))
 
 pub link_volume-requires-clause-link : goal.link_volume-requires-clause-link

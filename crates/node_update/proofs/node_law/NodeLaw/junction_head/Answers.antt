@@ -1,6 +1,6 @@
 use Rattle.std.proofs.Common.{◌≡◌, ◌∙◌, ◌*◌, ◌^◌, ap, ℤ}
 use Rattle.std.proofs.lemmas.Int.{to_z-of_z}
-use Rattle.fixed_num.specs.Ranges.{IsWithin, cut_of}
+use Rattle.fixed_num.specs.Ranges.{cut_of, IsHead}
 use Rattle.fixed_num.proofs.Bounds.{fits64, fits128}
 use Rattle.node_update.specs.NodeUpdate.{raised_of, relaxed_of, junction_head as head_of}
 use Rattle.node_update.proofs.GainLemmas.{top_within, invert_within}
@@ -22,7 +22,7 @@ held c =
     let cut = simp (to_z-of_z, fits128 c.raised-raised.ensures.range tt, fits64 invert tt, fits128 invert tt, fits64 top tt, fits128 top tt) at c.cut-held.ensures.value in
     cut ∙ ap (λ (x : ℤ). cut_of x c.args.self.now.invert c.args.self.now.top) raised
 
-range : (c : After-cut-held) → IsWithin (2 * 10 ^ 10) c.cut-held.result
+range : (c : After-cut-held) → IsHead c.cut-held.result
 range c = rw (held c) (held_within (raised_of c.args.self.now c.args.fixed.now c.args.inflow c.args.outflow c.args.area) c.requires.law)
 
 pub relaxed-requires-clause-new : goal.relaxed-requires-clause-new
@@ -30,7 +30,7 @@ relaxed-requires-clause-new c =
     let r = range (goal.at.relaxed-requires-clause-new c).After-cut-held in
     simp (to_z-of_z, fits128 r tt, fits64 r tt) r
 
-value : (c : After-relaxed) → IsWithin (2 * 10 ^ 10) c.cut-held.result → c.cut-held.result ≡ cut_of (raised_of c.args.self.now c.args.fixed.now c.args.inflow c.args.outflow c.args.area) c.args.self.now.invert c.args.self.now.top
+value : (c : After-relaxed) → IsHead c.cut-held.result → c.cut-held.result ≡ cut_of (raised_of c.args.self.now c.args.fixed.now c.args.inflow c.args.outflow c.args.area) c.args.self.now.invert c.args.self.now.top
     → c.relaxed.result ≡ head_of c.args.self.now c.args.fixed.now c.args.first c.args.inflow c.args.outflow c.args.area c.args.last
 unfolding head_of
 value c r h =
