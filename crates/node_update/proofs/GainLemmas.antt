@@ -13,17 +13,17 @@ use Rattle.node_update.specs.NodeUpdate.{IsNodeFixed, net_of, gain_of, surface_o
 use Rattle.node_update.specs.declared.node_law.NodeLaw.{NodeLaw as Law}
 
 pub flow_within : {flow : ℤ} → IsFlow flow → IsFlow flow
-flow_within h = record { within = h.within }
+flow_within h = h
 
 -- the sums that a node gets of its links
 pub inflow_between : {i o a : ℤ} → SumsInRange i o a → IsBetween (pos 0) i (pos (2 * 10 ^ 16))
-inflow_between h = record { from = h.inflow_least; to = h.inflow_most }
+inflow_between h = h.inflow_in
 
 pub outflow_between : {i o a : ℤ} → SumsInRange i o a → IsBetween (pos 0) o (pos (2 * 10 ^ 16))
-outflow_between h = record { from = h.outflow_least; to = h.outflow_most }
+outflow_between h = h.outflow_in
 
 pub area_between : {i o a : ℤ} → SumsInRange i o a → IsBetween (pos 0) a (pos (10 ^ 17))
-area_between h = record { from = h.area_least; to = h.area_most }
+area_between h = h.area_in
 
 -- half of a step
 pub length_within : {dt : ℤ} → IsStepLength dt → IsWithin 3_600_000 dt

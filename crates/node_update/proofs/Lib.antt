@@ -1,4 +1,2 @@
-pub mod GreatestLemmas
-pub mod HeightLemmas
 pub mod GainLemmas
 pub mod UpdateLemmas

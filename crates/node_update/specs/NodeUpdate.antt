@@ -4,6 +4,7 @@ use Rattle.std.specs.Prelude.{◌*◌, ◌^◌, Bool, true, if◌then◌else◌,
 use Rattle.std.specs.Int.{int_max}
 use Rattle.std.specs.Int.RustNames.{unsigned_abs}
 use Rattle.fixed_num.specs.Ranges.{IsWithin, cut_of, IsFlow, IsStepLength, IsHead}
+use Rattle.fixed_num.specs.Relaxation.{relaxed_of}
 use Rattle.fixed_num.specs.Rounding.{quo_of}
 use Rattle.phase_law.specs.declared.values.NodeFixed.{NodeFixed}
 use Rattle.phase_law.specs.declared.values.NodeNext.{NodeNext}
@@ -35,10 +36,6 @@ surface_of law area = law.min_area +ℤ area
 unfoldable pub raised_of : Law → NodeFixed → (inflow outflow area : ℤ) → ℤ
 raised_of law fixed inflow outflow area =
     fixed.h_old +ℤ quo_of (gain_of fixed inflow outflow *ℤ pos 1_000) (surface_of law area)
-
--- the head of a trial: the new head in the first trial, afterwards the mean of it and the last one
-unfoldable pub relaxed_of : (first : Bool) → (last new : ℤ) → ℤ
-relaxed_of first last new = if first then new else quo_of (last +ℤ new) (pos 2)
 
 -- the next head of a junction: the raised head held between invert and top, then relaxed
 unfoldable pub junction_head : Law → NodeFixed → Bool → (inflow outflow area last : ℤ) → ℤ

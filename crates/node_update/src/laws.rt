@@ -1,14 +1,9 @@
-ghost use Rattle.std.specs.Prelude.{◌≡◌, Bool, List, ℤ, ◌≤ℤ◌};
-ghost use Rattle.node_update.specs.NodeLaws.{IsGreatest, IsNodeLaw, greatest_of};
+ghost use Rattle.std.specs.Prelude.{◌≡◌, Bool, ℤ, ◌≤ℤ◌};
+ghost use Rattle.node_update.specs.NodeLaws.{IsNodeLaw};
 ghost use Rattle.node_update.specs.NodeUpdate.{next_of};
 ghost use Rattle.node_update.specs.declared.node_law.HeadRule.TheVariants.{Junction as JunctionRule};
 ghost use Rattle.node_update.specs.declared.node_law.NodeLaw.{NodeLaw as Law};
 ghost use Rattle.phase_law.specs.declared.values.NodeFixed.{NodeFixed};
-
-/// Law: the greatest of numbers, by which a full height is found, is the greatest of them.
-pub fn greatest_is_greatest()
-    ensures { (numbers : List ℤ) → IsGreatest numbers (greatest_of numbers) }
-{}
 
 /// Law: a junction whose last head was not above its top stays there, whatever comes in.
 pub fn stays_below_its_top()

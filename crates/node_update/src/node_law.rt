@@ -1,11 +1,16 @@
 // The law of a node.
-ghost use Rattle.std.specs.Prelude.{◌≡◌, ◌*◌, ◌^◌, ◌<◌, length, ℤ, pos};
-ghost use Rattle.fixed_num.specs.Ranges.{IsBetween, IsElevation, IsDepth};
-ghost use Rattle.node_update.specs.Network.{IsNetwork, IsNodeKind, AreNetworkOptions};
+ghost use Rattle.std.specs.Prelude.{◌≡◌, ◌*◌, ◌^◌, ◌<◌, length, IfOk, pos};
+ghost use Rattle.std.specs.List.{All};
+ghost use Rattle.fixed_num.specs.Lists.{list_of};
+ghost use Rattle.fixed_num.specs.Ranges.{IsBetween, IsDepth, IsElevation};
+ghost use Rattle.net_types.specs.Ranges.{NodeKindInRange, OptionsInRange};
+ghost use Rattle.net_types.specs.Sound.{IsSound};
+ghost use Rattle.node_update.specs.Network.{HasNodeLaws, IsBuiltKind};
 ghost use Rattle.node_update.specs.NodeLaws.{IsNodeLaw, junction_law, kind_law, node_law_of, outfall_law};
 
-use crate::full_height::full_height;
-use net_types::{NodeKind, Options, Project};
+use net_types::{List, NodeKind, Options, OutOfMemory, Project};
+use project_check::full_heights;
+use std::alloc::Global;
 
 /// How a node's head follows: a junction's by its inflow, an outfall's by its stage.
 #[derive(Clone, Copy, Debug, PartialEq, Eq)]
@@ -29,29 +34,50 @@ pub struct NodeLaw {
 }
 
 impl NodeLaw {
-    /// The law of a node of a project, by its number.
+    /// The law of a node of a sound project, by its number; the nodes of the project are of kinds that are built.
     ///
-    /// The full height of a junction is the greater of its greatest depth and the highest top of the conduits that begin
-    /// or end there; its top lies its surcharge depth above that.
+    /// A junction's top lies its surcharge depth above its full height. The only error is want of memory. `node_laws`
+    /// gives the laws of all nodes by one walk over the links.
     /// Source: Reference Manual volume II, chapter 3.
-    pub fn build(project: &Project, node: u32) -> NodeLaw
-        requires network { IsNetwork project.now }
+    pub fn build(alloc: Global, project: &Project, node: u32) -> Result<NodeLaw, OutOfMemory>
+        requires sound { IsSound project.now }
+        requires built { HasNodeLaws project.now }
         requires node { node < length project.now.nodes }
-        ensures value { result ≡ node_law_of project.now node }
-        ensures range { IsNodeLaw result }
+        ensures value { IfOk result (λ law. law ≡ node_law_of project.now node) }
+        ensures range { IfOk result IsNodeLaw }
     {
-        let full = full_height(project, node);
-        let at = &project.nodes.as_slice()[node as usize];
-        kind_law(&at.kind, at.invert, full, &project.options)
+        let laws = node_laws(alloc, project)?;
+        Ok(laws.as_slice()[node as usize])
     }
+}
+
+/// The laws of all nodes of a sound project, whose nodes are of kinds that are built, in their order. The only error is
+/// want of memory.
+pub fn node_laws(alloc: Global, project: &Project) -> Result<List<NodeLaw>, OutOfMemory>
+    requires sound { IsSound project.now }
+    requires built { HasNodeLaws project.now }
+    ensures value { IfOk result (λ laws. laws ≡ list_of (node_law_of project.now) (length project.now.nodes)) }
+    ensures range { IfOk result (All IsNodeLaw) }
+{
+    let heights = full_heights(alloc, project)?;
+    let nodes = project.nodes.as_slice();
+    let heights = heights.as_slice();
+    let count = nodes.len().min(heights.len());
+    let mut laws = List::new(alloc);
+    for n in 0..count {
+        let node = &nodes[n];
+        laws.push(kind_law(&node.kind, node.invert, heights[n], &project.options))?;
+    }
+    Ok(laws)
 }
 
 // The law of a node of this kind.
 fn kind_law(kind: &NodeKind, invert: i64, full: i64, options: &Options) -> NodeLaw
-    requires kind { IsNodeKind kind.now }
+    requires kind { NodeKindInRange kind.now }
+    requires built { IsBuiltKind kind.now }
     requires invert { IsElevation invert }
     requires full { IsBetween (pos 0) full (pos (2 * 10 ^ 9)) }
-    requires options { AreNetworkOptions options.now }
+    requires options { OptionsInRange options.now }
     ensures value { result ≡ kind_law kind.now invert full options.now }
     ensures range { IsNodeLaw result }
 {
@@ -66,7 +92,7 @@ fn junction_law(surcharge: i64, invert: i64, full: i64, options: &Options) -> No
     requires surcharge { IsDepth surcharge }
     requires invert { IsElevation invert }
     requires full { IsBetween (pos 0) full (pos (2 * 10 ^ 9)) }
-    requires options { AreNetworkOptions options.now }
+    requires options { OptionsInRange options.now }
     ensures value { result ≡ junction_law invert full surcharge options.now }
     ensures range { IsNodeLaw result }
 {
@@ -83,7 +109,7 @@ fn junction_law(surcharge: i64, invert: i64, full: i64, options: &Options) -> No
 // The law of an outfall of fixed stage.
 fn outfall_law(invert: i64, options: &Options) -> NodeLaw
     requires invert { IsElevation invert }
-    requires options { AreNetworkOptions options.now }
+    requires options { OptionsInRange options.now }
     ensures value { result ≡ outfall_law invert options.now }
     ensures range { IsNodeLaw result }
 {

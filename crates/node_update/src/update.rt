@@ -3,13 +3,14 @@ ghost use Rattle.std.specs.Prelude.{◌≡◌, ◌*◌, ◌^◌, true, ℤ, pos,
 ghost use Rattle.std.specs.Int.{int_max};
 ghost use Rattle.std.specs.Int.RustNames.{unsigned_abs};
 ghost use Rattle.fixed_num.specs.Ranges.{IsBetween, IsWithin, IsHead};
+ghost use Rattle.fixed_num.specs.Relaxation.{relaxed_of};
 ghost use Rattle.node_update.specs.NodeLaws.{IsNodeLaw};
-ghost use Rattle.node_update.specs.NodeUpdate.{IsNodeFixed, gain_of, relaxed_of, junction_head, has_settled, rule_next, next_of, rule_flood, flood_of, rule_volume, volume_of};
+ghost use Rattle.node_update.specs.NodeUpdate.{IsNodeFixed, gain_of, junction_head, has_settled, rule_next, next_of, rule_flood, flood_of, rule_volume, volume_of};
 ghost use Rattle.node_update.specs.declared.node_law.HeadRule.TheVariants.{Junction as JunctionRule};
 ghost use Rattle.phase_law.specs.Ranges.{SumsInRange};
 
 use crate::node_law::{HeadRule, NodeLaw};
-use fixed_num::{cut, quo};
+use fixed_num::{cut, quo, relaxed};
 use phase_law::{NodeFixed, NodeNext};
 
 impl NodeLaw {
@@ -125,7 +126,7 @@ impl NodeLaw {
     {
         let raised = self.raised(fixed, inflow, outflow, area);
         let held = cut(raised, self.invert as i128, self.top as i128) as i64;
-        relaxed(first, last, held)
+        relaxed_head(first, last, held)
     }
 
     // What an outfall does in a trial.
@@ -169,16 +170,13 @@ impl NodeLaw {
 }
 
 // The head of a trial: the new head in the first one, else the mean of it and the last.
-fn relaxed(first: bool, last: i64, new: i64) -> i64
+fn relaxed_head(first: bool, last: i64, new: i64) -> i64
     requires last { IsHead last }
     requires new { IsHead new }
     ensures value { result ≡ relaxed_of first last new }
     ensures range { IsHead result }
 {
-    if first {
-        return new;
-    }
-    quo(last as i128 + new as i128, 2) as i64
+    relaxed(first, last, new as i128) as i64
 }
 
 // Whether a head moved no further than the tolerance.

@@ -11,11 +11,16 @@ use Rattle.fixed_num.specs.Ranges.{IsBetween, IsDepth}
 use Rattle.net_types.specs.declared.network.Link.{Link}
 use Rattle.net_types.specs.declared.network.LinkKind.{LinkKind}
 use Rattle.net_types.specs.declared.network.LinkKind.TheVariants.{Conduit, Pump, Orifice, Weir}
+use Rattle.net_types.specs.declared.network.NodeKind.{NodeKind}
+use Rattle.net_types.specs.declared.network.NodeKind.TheVariants.{Junction, Outfall, Storage}
 use Rattle.net_types.specs.declared.network.Section.{Section}
-use Rattle.net_types.specs.Ranges.{LinkInRange, LinkKindInRange, SectionInRange}
+use Rattle.net_types.specs.declared.project.Project.{Project}
+use Rattle.net_types.specs.Ranges.{LinkInRange, LinkKindInRange, NodeInRange, SectionInRange}
+use Rattle.net_types.specs.Records.{no_node, node_at}
+use Rattle.net_types.specs.Sound.{IsSound}
 use Rattle.project_check.specs.declared.ends.NodeEnds.{NodeEnds}
 use Rattle.project_check.specs.Ends.{ends_of, no_ends, node_ends_at, with_end, with_link}
-use Rattle.project_check.specs.FullHeight.{conduit_height, end_top, first_offset, greatest_of, highest_top, link_top, second_offset, section_height}
+use Rattle.project_check.specs.FullHeight.{conduit_height, end_top, first_offset, full_height_of, greatest_of, highest_top, kind_height, link_top, second_offset, section_height}
 use Rattle.project_check.specs.Network.{end_at, ends_at, link_ends, links_from}
 use Rattle.project_check.proofs.GreatestLemmas.{greatest_found}
 use Rattle.project_check.proofs.HeightLemmas.{greatest_more}
@@ -127,3 +132,17 @@ highest_in n (link ∷ links) h = max_in (link_top_in n link (All-head LinkInRan
 -- a loan of a whole list that is given back
 pub written_whole : {A : Type 0} (xs ys : List A) → length ys ≡ length xs → take (length xs) (ys ++ drop (length ys) xs) ≡ ys
 written_whole xs ys e = rw (sym e) (take-append_seam ys (drop (length ys) xs))
+
+-- ---- full heights
+wider : {y : ℤ} → IsDepth y → IsBetween (pos 0) y (pos (2 * 10 ^ 9))
+wider h = record { from = h.from; to = omega (arith, ints, h.to) }
+
+kind_height_in : (kind : NodeKind) {y_max highest : ℤ} → IsDepth y_max → IsBetween (pos 0) highest (pos (2 * 10 ^ 9)) → IsBetween (pos 0) (kind_height kind y_max highest) (pos (2 * 10 ^ 9))
+kind_height_in (Junction surcharge pond) h t = max_in (wider h) t
+kind_height_in (Outfall stage gated) h t = wider h
+kind_height_in (Storage shape) h t = wider h
+
+pub full_height_in : (project : Project) → IsSound project → (k : ℕ) → k < length project.nodes → IsBetween (pos 0) (full_height_of project k) (pos (2 * 10 ^ 9))
+full_height_in project sound k inside =
+    let node : NodeInRange (node_at project.nodes k) = sound.ranges.nodes k no_node inside in
+    kind_height_in (node_at project.nodes k).kind node.y_max_in (highest_in k project.links sound.ranges.links)
