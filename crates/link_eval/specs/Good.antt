@@ -1,5 +1,6 @@
 -- Hydraulics that are good to route with, and what follows for their law.
 use Rattle.std.specs.Prelude.{ℕ, ◌<◌, ◌≤◌, length}
+use Rattle.fixed_num.specs.declared.constants.TheConstants.{RECORD_LIMIT}
 use Rattle.conduit_flow.specs.Conduits.{IsConduit, IsConduitTable}
 use Rattle.node_update.specs.NodeLaws.{IsNodeLaw}
 use Rattle.phase_law.specs.Laws.{AreEnds}
@@ -13,7 +14,7 @@ pub record IsGoodLink (nodes : ℕ) (link : LinkLaw) : Type 0 where
 
 -- few nodes and links, each in its ranges
 pub record IsGood (h : Hydraulics) : Type 0 where
-  pub few_nodes : length h.nodes ≤ 20_000
-  pub few_links : length h.links ≤ 20_000
+  pub few_nodes : length h.nodes ≤ RECORD_LIMIT
+  pub few_links : length h.links ≤ RECORD_LIMIT
   pub nodes : (n : ℕ) → n < length h.nodes → IsNodeLaw (node_law_at h n)
   pub links : (l : ℕ) → l < length h.links → IsGoodLink (length h.nodes) (link_law_at h l)

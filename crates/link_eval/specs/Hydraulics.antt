@@ -1,11 +1,10 @@
 -- What a network of junctions, outfalls and conduits computes: the laws of its nodes and links, and the law of the whole
 -- (Reference Manual volume II, chapter 3).
 use Rattle.std.specs.Prelude.{ℕ, ◌*◌, ◌^◌, Bool, false, List, [], length, map, slice_index_or, Option, Some, None, ℤ, pos, ◌+ℤ◌, ◌||◌}
-use Rattle.std.specs.List.{All, range_with_len}
+use Rattle.fixed_num.specs.Lists.{list_of}
 use Rattle.conduit_flow.specs.ConduitShare.{share_of}
 use Rattle.conduit_flow.specs.Geometry.{mid_area_of, volume_of}
 use Rattle.conduit_flow.specs.declared.conduit.ConduitData.{ConduitData}
-use Rattle.fixed_num.specs.Ranges.{IsBetween}
 use Rattle.net_types.specs.declared.network.Link.{Link}
 use Rattle.net_types.specs.declared.network.LinkKind.{LinkKind}
 use Rattle.net_types.specs.declared.network.LinkKind.TheVariants.{Conduit, Pump, Orifice, Weir}
@@ -17,34 +16,15 @@ use Rattle.net_types.specs.declared.options.Damping.TheVariants.{Full}
 use Rattle.net_types.specs.declared.options.Limiter.TheVariants.{Both}
 use Rattle.net_types.specs.declared.options.Options.{Options}
 use Rattle.net_types.specs.declared.project.Project.{Project}
-use Rattle.node_update.specs.Network.{IsNetwork}
 use Rattle.node_update.specs.NodeLaws.{node_law_of}
 use Rattle.net_types.specs.Records.{node_at}
 use Rattle.node_update.specs.NodeUpdate.{next_of}
 use Rattle.node_update.specs.declared.node_law.HeadRule.TheVariants.{FixedOutfall}
 use Rattle.node_update.specs.declared.node_law.NodeLaw.{NodeLaw}
 use Rattle.phase_law.specs.Law.{Law}
-use Rattle.xsect_tables.specs.SectionTable.{SectionTable, table_of, full_area}
-use Rattle.xsect_tables.specs.Sections.{IsSection, IsRectOpen}
+use Rattle.xsect_tables.specs.SectionTable.{SectionTable, table_of}
 pub use Rattle.link_eval.specs.declared.hydraulics.Hydraulics.{Hydraulics}
 pub use Rattle.link_eval.specs.declared.link_law.LinkLaw.{LinkLaw}
-
--- ---- the projects that have hydraulics
--- a section in its ranges, of a shape whose table can be built, with a full area of 1 to 10^11 mm²
-pub record IsGoodSection (section : Section) : Type 0 where
-  pub sizes : IsSection section
-  pub shape : IsRectOpen section.shape
-  pub area : IsBetween (pos 1) (full_area (table_of section)) (pos (10 ^ 11))
-
--- there is a section, and it is such a one
-abbrev pub HasGoodSection : Option Section → Type 0
-HasGoodSection (Some section) = IsGoodSection section
-HasGoodSection None = ⊥
-
--- a network that can be routed, whose conduits have good sections
-pub record IsHydraulic (project : Project) : Type 0 where
-  pub network : IsNetwork project
-  pub tables : All (λ link. HasGoodSection link.section) project.links
 
 -- ---- a conduit of a project
 -- a table of which all is empty
@@ -114,7 +94,7 @@ link_law_of nodes options link =
 -- the laws of all nodes and links of a project
 unfoldable pub hydraulics_of : Project → Hydraulics
 hydraulics_of project = record {
-  nodes = map (node_law_of project) (range_with_len 0 (length project.nodes));
+  nodes = list_of (node_law_of project) (length project.nodes);
   links = map (link_law_of project.nodes project.options) project.links;
 }
 

@@ -1,10 +1,12 @@
--- The law of good hydraulics answers in range wherever it is asked in range.
+-- The law of good hydraulics answers in range wherever it is asked in range: proofs, which stand here since the ghost law of
+-- a type may cite no other file of its crate.
 use Rattle.std.proofs.Common.{ℕ, ◌*◌, ◌/◌, ◌^◌, Bool, true, false, cond, ℤ, pos, negsuc, ◌*ℤ◌, ◌≤ℤ◌, neg_ℤ, arith}
 use Rattle.std.specs.Int.{int_min}
 use Rattle.std.specs.Ordering.{int_eq}
 use Rattle.std.proofs.Math.Nat.{mul-div-le}
 use Rattle.std.proofs.lemmas.Int.{ints, clamps}
 use Rattle.conduit_flow.proofs.RangeLemmas.{end_area-between}
+use Rattle.conduit_flow.proofs.TravelLemmas.{travel_time-between}
 use Rattle.conduit_flow.specs.ConduitShare.{barrel_flow_of, no_share, wet_share_of, is_dry, open_share_of, share_of}
 use Rattle.conduit_flow.specs.Conduits.{IsConduit, IsConduitTable}
 use Rattle.conduit_flow.specs.Geometry.{depth_of, mean_depth_of, ends_of, middle_of}
@@ -59,10 +61,9 @@ wet_share-in_range {conduit} {table} fixed first near far last c t =
     let area2 = end_area-between (width_between (depth_of far conduit.z2) t.rows) mid c.length t.rows.barrels in
     record {
       flow = held-flow conduit.q_max table.barrels _ c.q_max.from t.rows.barrels;
-      area1_least = area1.from;
-      area1_most = area1.to;
-      area2_least = area2.from;
-      area2_most = area2.to;
+      area1 = area1;
+      area2 = area2;
+      time = travel_time-between _ _ c.length;
     }
 
 either : (b : Bool) {x y : Share} → ShareInRange x → ShareInRange y → ShareInRange (cond b x y)
@@ -72,10 +73,9 @@ either false p q = q
 no_share-in_range : ShareInRange no_share
 no_share-in_range = record {
   flow = record { within = omega arith };
-  area1_least = omega (arith, ints);
-  area1_most = omega (arith, ints);
-  area2_least = omega (arith, ints);
-  area2_most = omega (arith, ints);
+  area1 = record { from = omega (arith, ints); to = omega (arith, ints) };
+  area2 = record { from = omega (arith, ints); to = omega (arith, ints) };
+  time = record { from = omega (arith, ints); to = omega (arith, ints) };
 }
 
 pub share-in_range : {conduit : ConduitData} {table : SectionTable} (fixed : LinkFixed) (first : Bool) (near far last : ℤ)
@@ -95,7 +95,7 @@ pub fixed_in : (h : Hydraulics) {fixed : NodeFixed} → NodeFixedInRange (law_of
 unfolding law_of
 fixed_in h i = record {
   head = head_in h i.head;
-  net = record { within = i.net };
+  net = i.net;
   lateral = i.lateral;
   stage = head_in h i.stage;
   length = i.length;
@@ -125,7 +125,7 @@ pub fixed_of_law : (h : Hydraulics) {fixed : NodeFixed} → IsNodeFixed fixed �
 unfolding law_of
 fixed_of_law h i = record {
   head = record { within = i.head.within };
-  net = i.net.within;
+  net = i.net;
   lateral = i.lateral;
   stage = record { within = i.stage.within };
   length = i.length;

@@ -1,16 +1,18 @@
 // The law of a network, with what always holds of it.
 ghost use Rattle.std.specs.Prelude.{◌≡◌, ◌*◌, ◌^◌, ◌<◌, length, pos, IfOk};
 ghost use Rattle.fixed_num.specs.Ranges.{IsBetween, IsHead};
+ghost use Rattle.project_check.specs.Faultless.{IsFaultless};
+ghost use Rattle.link_eval.specs.Built.{HasHydraulics};
 ghost use Rattle.link_eval.specs.Good.{IsGood, IsGoodLink};
 ghost use Rattle.node_update.specs.NodeLaws.{IsNodeLaw};
-ghost use Rattle.link_eval.specs.Hydraulics.{IsHydraulic, hydraulics_of, node_law_at, link_law_at, volume_at, mid_area_at};
+ghost use Rattle.link_eval.specs.Hydraulics.{hydraulics_of, node_law_at, link_law_at, volume_at, mid_area_at};
 
-use crate::build::{link_laws, node_laws};
+use crate::build::link_laws;
 use crate::hydraulics::Hydraulics;
 use crate::link_law::LinkLaw;
 use conduit_flow::{conduit_volume, mid_area};
 use net_types::{OutOfMemory, Project};
-use node_update::NodeLaw;
+use node_update::{NodeLaw, node_laws};
 use std::alloc::Global;
 
 /// The hydraulics of a network, whose nodes and links all lie in their ranges.
@@ -21,11 +23,13 @@ pub struct HydraulicLaw {
 }
 
 impl HydraulicLaw {
-    /// The hydraulics of a project, which is a network of junctions, outfalls of fixed stage and conduits.
+    /// The hydraulics of a faultless project of kinds that are built (`specs/Built.antt`). The only error is want of
+    /// memory.
     ///
     /// Source: Reference Manual volume II, chapter 3.
     pub fn build(alloc: Global, project: &Project) -> Result<HydraulicLaw, OutOfMemory>
-        requires { IsHydraulic project.now }
+        requires faultless { IsFaultless project.now }
+        requires built { HasHydraulics project.now }
         ensures { IfOk result (λ law. law.hydraulics ≡ hydraulics_of project.now) }
     {
         let nodes = node_laws(alloc, project)?;

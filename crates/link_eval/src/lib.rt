@@ -10,8 +10,6 @@ mod hydraulic_law;
 mod hydraulics;
 mod law;
 mod link_law;
-#[cfg(test)]
-mod tests;
 
 pub use hydraulic_law::HydraulicLaw;
 pub use hydraulics::Hydraulics;

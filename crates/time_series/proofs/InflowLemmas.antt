@@ -8,7 +8,7 @@ use Rattle.fixed_num.proofs.Bounds.{within_mul, within_number, within_up, within
 use Rattle.inp_values.specs.Units.{flow_num, flow_den, unit_for}
 use Rattle.inp_values.specs.declared.quantities.Quantity.TheVariants.{Flow}
 use Rattle.net_types.specs.declared.options.FlowUnits.{FlowUnits}
-use Rattle.time_series.specs.LateralFlow.{sum_over}
+use Rattle.fixed_num.specs.Sums.{sum_over}
 
 pub num_of : (units : FlowUnits) → (unit_for units Flow).num ≡ flow_num units
 unfolding unit_for

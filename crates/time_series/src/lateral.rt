@@ -2,9 +2,12 @@
 ghost use Rattle.std.specs.Prelude.{◌≡◌, ◌≤◌, ◌^◌, length};
 ghost use Rattle.std.specs.List.{All};
 ghost use Rattle.fixed_num.specs.Ranges.{IsWithin, IsFlow};
-ghost use Rattle.time_series.specs.LateralFlow.{HasConstantInflows, IsConstant, flow_of as flow_of_base, inflow_at as part_at, lateral_of, sum_over};
+ghost use Rattle.fixed_num.specs.Sums.{sum_over};
+ghost use Rattle.net_types.specs.Ranges.{InflowInRange};
+ghost use Rattle.net_types.specs.Sound.{IsSound};
+ghost use Rattle.time_series.specs.LateralFlow.{HasBuiltInflows, flow_of as flow_of_base, inflow_at as part_at, lateral_of};
 
-use fixed_num::{cut, quo};
+use fixed_num::{RECORD_LIMIT, cut, quo};
 use inp_values::{Quantity, unit_of};
 use net_types::{FlowUnits, Inflow, Project};
 
@@ -13,7 +16,8 @@ use net_types::{FlowUnits, Inflow, Project};
 /// It is what the node's inflows add up to, brought into 10^12 to either side. Constant inflows are the same at all
 /// moments. Source: User's Manual, section [INFLOWS]; the rounding is this project's profile.
 pub fn lateral_flow(project: &Project, node: u32, _moment: i64) -> i64
-    requires { HasConstantInflows project.now }
+    requires sound { IsSound project.now }
+    requires built { HasBuiltInflows project.now }
     ensures value { result ≡ lateral_of project.now node }
     ensures range { IsFlow result }
 {
@@ -23,8 +27,8 @@ pub fn lateral_flow(project: &Project, node: u32, _moment: i64) -> i64
 
 // What inflows add up to at a node, in cm³/s.
 fn total_flow(units: FlowUnits, inflows: &[Inflow], node: u32) -> i128
-    requires few { length inflows.now ≤ 20_000 }
-    requires each { All IsConstant inflows.now }
+    requires few { length inflows.now ≤ RECORD_LIMIT }
+    requires each { All InflowInRange inflows.now }
     ensures { result ≡ sum_over (part_at units node) inflows.now }
 {
     let mut total = 0;
@@ -36,7 +40,7 @@ fn total_flow(units: FlowUnits, inflows: &[Inflow], node: u32) -> i128
 
 // What an inflow adds at a node, in cm³/s.
 fn inflow_at(units: FlowUnits, node: u32, inflow: &Inflow) -> i128
-    requires { IsConstant inflow.now }
+    requires { InflowInRange inflow.now }
     ensures value { result ≡ part_at units node inflow.now }
     ensures range { IsWithin (10 ^ 20) result }
 {
@@ -48,7 +52,7 @@ fn inflow_at(units: FlowUnits, node: u32, inflow: &Inflow) -> i128
 
 // The baseline of an inflow, in cm³/s.
 fn flow_of(units: FlowUnits, inflow: &Inflow) -> i128
-    requires { IsConstant inflow.now }
+    requires { InflowInRange inflow.now }
     ensures value { result ≡ flow_of_base units inflow.now.base6 }
     ensures range { IsWithin (10 ^ 20) result }
 {

@@ -13,11 +13,11 @@ use Rattle.time_series.proofs.lateral.flow_of.Goals.{After-quo}
 value : (c : After-quo) → c.quo.result ≡ quo_of (c.args.inflow.now.base6 *ℤ pos c.unit_of-unit.result.num) (pos c.unit_of-unit.result.den *ℤ pos 1_000_000)
 value c =
     let unit = c.unit_of-unit.ensures.unit in
-    let base = fits64 c.requires.base tt in
-    let wide = fits128 c.requires.base tt in
+    let base = fits64 c.requires.base_in tt in
+    let wide = fits128 c.requires.base_in tt in
     let num = fits128 (number_within unit.num_at_most) tt in
     let den = fits128 (number_within unit.den_at_most) tt in
-    let product = fits128 (product_within c.requires.base unit.num_at_most) tt in
+    let product = fits128 (product_within c.requires.base_in unit.num_at_most) tt in
     let divisor = fits128 (divisor_within unit.den_at_most) tt in
     simp (to_z-of_z, base, wide, num, den, product, divisor) at c.quo.ensures.value
 
@@ -34,5 +34,5 @@ pub returns-clause-range : goal.returns-clause-range
 returns-clause-range c =
     let fits : FitsSigned w128 c.quo.result = search rules in
     let unit = c.unit_of-unit.ensures.unit in
-    let range = subst (IsWithin (10 ^ 20)) (sym (value c)) (quotient_within (product_within c.requires.base unit.num_at_most) unit.den_positive) in
+    let range = subst (IsWithin (10 ^ 20)) (sym (value c)) (quotient_within (product_within c.requires.base_in unit.num_at_most) unit.den_positive) in
     simp (to_z-of_z, fits) range

@@ -4,10 +4,10 @@ use Rattle.link_eval.proofs.hydraulic_law.HydraulicLaw.build.Goals as goal
 
 pub invariant_of-result : goal.invariant_of-result
 invariant_of-result c = record {
-  good = laws_are_good c.args.project.now (record { nodes = c.in_ok-nodes.nodes; links = c.in_ok-links.links }) c.requires.network
-      c.in_ok-nodes.ensures.0 c.in_ok-nodes.ensures.1 c.in_ok-links.ensures.0 c.in_ok-links.ensures.1;
+  good = laws_are_good c.args.project.now (record { nodes = c.in_ok-nodes.nodes; links = c.in_ok-links.links }) c.requires.faultless.sound
+      c.in_ok-nodes.ensures.value c.in_ok-nodes.ensures.range c.in_ok-links.ensures.0 c.in_ok-links.ensures.1;
 }
 
 pub returns : goal.returns
 unfolding hydraulics_of
-returns c = cc (c.in_ok-nodes.ensures.0, c.in_ok-links.ensures.0)
+returns c = cc (c.in_ok-nodes.ensures.value, c.in_ok-links.ensures.0)
