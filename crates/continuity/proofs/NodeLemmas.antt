@@ -23,9 +23,10 @@ use Rattle.trial_model.specs.Fits.{Fits, HeadsFit}
 use Rattle.fixed_num.specs.Lists.{number}
 use Rattle.trial_model.specs.declared.nets.Nets.{Nets}
 use Rattle.trial_model.proofs.LoopLemmas.{number_same, number_other}
+use Rattle.link_eval.specs.LawGood.{fixed_in, head_in}
 use Rattle.continuity.specs.Account.{gain_at, flood_at, floods_of}
 use Rattle.continuity.specs.StepOf.{IsBelowTops, IsStepOf}
-use Rattle.continuity.proofs.LawLemmas.{fixed_in, head_in, node_law_in}
+use Rattle.continuity.proofs.LawLemmas.{node_law_in}
 
 -- ---- the gain
 net_small : (lateral i o : ℤ) → unsigned_abs lateral ≤ 10 ^ 12 → IsBetween (pos 0) i (pos (2 * 10 ^ 16)) → IsBetween (pos 0) o (pos (2 * 10 ^ 16))

@@ -1,5 +1,6 @@
 use Rattle.std.proofs.Common.{ℕ, ◌<◌, subst}
-use Rattle.continuity.proofs.LawLemmas.{nodes_is, fixed_in}
+use Rattle.link_eval.specs.LawGood.{fixed_in}
+use Rattle.continuity.proofs.LawLemmas.{nodes_is}
 use Rattle.continuity.proofs.floods.flood_at.Goals as goal
 
 pub node-requires : goal.node-requires

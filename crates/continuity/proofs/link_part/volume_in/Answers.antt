@@ -1,12 +1,12 @@
-use Rattle.std.proofs.Common.{◌<◌, ◌*◌, ◌^◌, subst, ℕ}
+use Rattle.std.proofs.Common.{◌<◌, subst, ℕ}
 use Rattle.std.proofs.lemmas.Int.{to_z-of_z}
 use Rattle.fixed_num.specs.Ranges.{IsHead}
 use Rattle.fixed_num.proofs.Bounds.{fits64}
 use Rattle.link_eval.specs.Hydraulics.{law_of}
-use Rattle.link_eval.specs.LawGood.{law_good}
+use Rattle.link_eval.specs.LawGood.{head_in, law_good}
 use Rattle.phase_law.specs.Laws.{AreEnds}
 use Rattle.fixed_num.specs.Lists.{number}
-use Rattle.continuity.proofs.LawLemmas.{links_is, head_in}
+use Rattle.continuity.proofs.LawLemmas.{links_is}
 use Rattle.continuity.proofs.link_part.volume_in.Goals as goal
 use Rattle.continuity.proofs.link_part.volume_in.Goals.{After-as_slice-heads}
 

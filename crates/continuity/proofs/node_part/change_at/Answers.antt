@@ -1,7 +1,8 @@
 use Rattle.std.proofs.Common.{ℕ, ◌<◌, subst}
 use Rattle.std.proofs.lemmas.Int.{to_z-of_z}
 use Rattle.fixed_num.proofs.Bounds.{fits64}
-use Rattle.continuity.proofs.LawLemmas.{nodes_is, head_in}
+use Rattle.link_eval.specs.LawGood.{head_in}
+use Rattle.continuity.proofs.LawLemmas.{nodes_is}
 use Rattle.continuity.proofs.node_part.change_at.Goals as goal
 
 pub node-at-requires : goal.node-at-requires

@@ -1,7 +1,7 @@
 use Rattle.std.proofs.lemmas.Int.{to_z-of_z}
 use Rattle.fixed_num.proofs.Bounds.{within_between, fits64, fits128}
 use Rattle.node_update.proofs.GainLemmas.{inflow_between, outflow_between}
-use Rattle.continuity.proofs.LawLemmas.{fixed_in}
+use Rattle.link_eval.specs.LawGood.{fixed_in}
 use Rattle.continuity.proofs.NodeLemmas.{gain_in}
 use Rattle.continuity.proofs.node_part.gain_at.Goals as goal
 
