@@ -1,23 +1,14 @@
--- The reports of an input that is refused (User's Manual, appendix E, error messages; the numbers from 401 on, the
--- texts and the layout are this project's profile).
-use Rattle.std.specs.Prelude.{ℕ, ◌==◌, List, [], ◌∷◌, ◌++◌, codes, decimal, if◌then◌else◌}
+-- The reports of an input that is refused (User's Manual, appendix E, error messages; the layout is this project's
+-- profile).
+use Rattle.std.specs.Prelude.{ℕ, List, [], ◌∷◌, ◌++◌, codes, decimal}
 use Rattle.std.specs.List.{flat_map}
+use Rattle.net_types.specs.Faults.{kind_of, words_of}
 use Rattle.net_types.specs.declared.faults.LineFault.{LineFault}
 use Rattle.net_types.specs.declared.faults.ProjectFault.{ProjectFault}
 
--- what the number of a fault of a line says
-abbrev pub line_fault_words : ℕ → List ℕ
-line_fault_words number =
-    if number == 171 then codes "curve out of order" else if number == 173 then codes "series out of order" else if number == 203 then codes "too few items"
-    else if number == 205 then codes "invalid keyword" else if number == 207 then codes "duplicate name" else if number == 209 then codes "undefined name"
-    else if number == 211 then codes "invalid number" else if number == 213 then codes "invalid date or time" else if number == 217 then codes "rule clause out of sequence"
-    else if number == 401 then codes "not in this profile" else if number == 402 then codes "over a limit" else codes "bad object"
-
--- what the number of a fault of a project says
-abbrev pub project_fault_words : ℕ → List ℕ
-project_fault_words number =
-    if number == 138 then codes "initial depth above full depth" else if number == 141 then codes "outfall has more than one link or an outlet link" else if number == 145 then codes "no outfall"
-    else if number == 191 then codes "end before start" else if number == 401 then codes "not in this profile" else if number == 402 then codes "over a limit" else codes "bad object"
+-- what the number of a fault says
+abbrev pub fault_words : ℕ → List ℕ
+fault_words number = words_of (kind_of number)
 
 -- a text behind a blank; nothing where it is empty
 abbrev pub after_blank : List ℕ → List ℕ
@@ -38,11 +29,11 @@ fault_tail words text = (codes ": " ++ words) ++ (after_blank text ++ codes "\n"
 
 -- the report line of a fault of a line: its number, its line, what it says, and the token
 unfoldable pub line_fault_line : LineFault → List ℕ
-line_fault_line fault = labelled (codes "ERROR ") fault.number ++ (labelled (codes " line ") fault.line ++ fault_tail (line_fault_words fault.number) fault.token)
+line_fault_line fault = labelled (codes "ERROR ") fault.number ++ (labelled (codes " line ") fault.line ++ fault_tail (fault_words fault.number) fault.token)
 
 -- the report line of a fault of a project: its number, what it says, and the object's name
 unfoldable pub project_fault_line : ProjectFault → List ℕ
-project_fault_line fault = labelled (codes "ERROR ") fault.number ++ fault_tail (project_fault_words fault.number) fault.name
+project_fault_line fault = labelled (codes "ERROR ") fault.number ++ fault_tail (fault_words fault.number) fault.name
 
 -- the report of these faults of lines
 unfoldable pub line_faults_report : List LineFault → List ℕ

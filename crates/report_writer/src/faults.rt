@@ -3,11 +3,11 @@ ghost use Rattle.std.specs.Prelude.{◌≡◌, ◌∷◌, ◌++◌, [], codes};
 ghost use Rattle.std.specs.List.{flat_map};
 ghost use Rattle.fault_ports.specs.Causes.{HasCause};
 ghost use Rattle.fault_ports.specs.Output.{Puts};
-ghost use Rattle.report_writer.specs.FaultReports.{after_blank, fault_tail, input_too_long_report, labelled, line_fault_line, line_fault_words, line_faults_report, project_fault_line, project_fault_words, project_faults_report};
+ghost use Rattle.report_writer.specs.FaultReports.{after_blank, fault_tail, fault_words, input_too_long_report, labelled, line_fault_line, line_faults_report, project_fault_line, project_faults_report};
 
 use fault_ports::{Failed, Sink, put_all};
 use itoa::Buffer;
-use net_types::{LineFault, List, ProjectFault};
+use net_types::{FaultKind, LineFault, List, ProjectFault};
 
 const HEADING: &[u8] = b"SWMM5-FX REPORT\n\nInput Faults\n";
 
@@ -93,7 +93,7 @@ fn put_line_fault<W: Sink>(to: &mut W, fault: &LineFault) -> Result<(), Failed>
 
 // Puts the line of a fault, and its end.
 fn put_line_fault_end<W: Sink>(to: &mut W, fault: &LineFault) -> Result<(), Failed>
-    ensures bytes { Puts (W.held to.old) (W.held to.new) (labelled (codes " line ") fault.now.line ++ fault_tail (line_fault_words fault.now.number) fault.now.token) result }
+    ensures bytes { Puts (W.held to.old) (W.held to.new) (labelled (codes " line ") fault.now.line ++ fault_tail (fault_words fault.now.number) fault.now.token) result }
     ensures cause { HasCause (W.faults to.old) (W.faults to.new) result }
 {
     match put_labelled(to, b" line ", fault.line) {
@@ -103,10 +103,10 @@ fn put_line_fault_end<W: Sink>(to: &mut W, fault: &LineFault) -> Result<(), Fail
 }
 
 fn put_line_fault_tail<W: Sink>(to: &mut W, fault: &LineFault) -> Result<(), Failed>
-    ensures bytes { Puts (W.held to.old) (W.held to.new) (fault_tail (line_fault_words fault.now.number) fault.now.token) result }
+    ensures bytes { Puts (W.held to.old) (W.held to.new) (fault_tail (fault_words fault.now.number) fault.now.token) result }
     ensures cause { HasCause (W.faults to.old) (W.faults to.new) result }
 {
-    put_fault_tail(to, line_words(fault.number), fault.token.as_slice())
+    put_fault_tail(to, fault_words(fault.number), fault.token.as_slice())
 }
 
 #[tactic(auto, unfolding(crate::specs::FaultReports::project_fault_line))]
@@ -121,10 +121,10 @@ fn put_project_fault<W: Sink>(to: &mut W, fault: &ProjectFault) -> Result<(), Fa
 }
 
 fn put_project_fault_tail<W: Sink>(to: &mut W, fault: &ProjectFault) -> Result<(), Failed>
-    ensures bytes { Puts (W.held to.old) (W.held to.new) (fault_tail (project_fault_words fault.now.number) fault.now.name) result }
+    ensures bytes { Puts (W.held to.old) (W.held to.new) (fault_tail (fault_words fault.now.number) fault.now.name) result }
     ensures cause { HasCause (W.faults to.old) (W.faults to.new) result }
 {
-    put_fault_tail(to, project_words(fault.number), fault.name.as_slice())
+    put_fault_tail(to, fault_words(fault.number), fault.name.as_slice())
 }
 
 // Puts a label and the digits of a number.
@@ -180,35 +180,9 @@ fn put_two<W: Sink>(to: &mut W, first: &[u8], second: &[u8]) -> Result<(), Faile
     }
 }
 
-fn line_words(number: u32) -> &'static [u8]
-    ensures { result.now ≡ line_fault_words number }
+// What the number of a fault says.
+fn fault_words(number: u32) -> &'static [u8]
+    ensures { result.now ≡ fault_words number }
 {
-    match number {
-        171 => b"curve out of order",
-        173 => b"series out of order",
-        203 => b"too few items",
-        205 => b"invalid keyword",
-        207 => b"duplicate name",
-        209 => b"undefined name",
-        211 => b"invalid number",
-        213 => b"invalid date or time",
-        217 => b"rule clause out of sequence",
-        401 => b"not in this profile",
-        402 => b"over a limit",
-        _ => b"bad object",
-    }
-}
-
-fn project_words(number: u32) -> &'static [u8]
-    ensures { result.now ≡ project_fault_words number }
-{
-    match number {
-        138 => b"initial depth above full depth",
-        141 => b"outfall has more than one link or an outlet link",
-        145 => b"no outfall",
-        191 => b"end before start",
-        401 => b"not in this profile",
-        402 => b"over a limit",
-        _ => b"bad object",
-    }
+    FaultKind::of_number(number).words()
 }
