@@ -29,15 +29,6 @@ project_good h good project e = subst (λ (x : Hydraulics). IsGood x) e good
 pub project_law_good : (project : Project) → IsGood (hydraulics_of project) → IsLaw (project_law project)
 project_law_good project good = law_good (hydraulics_of project) good
 
--- heads are within 2·10^10 µm
-pub head_within : (h : Hydraulics) {head : ℤ} → HeadInRange (law_of h) head → IsHead head
-unfolding law_of
-head_within h r = record { within = r.within }
-
-pub head_in : (h : Hydraulics) {head : ℤ} → IsHead head → HeadInRange (law_of h) head
-unfolding law_of
-head_in h r = record { within = r.within }
-
 -- the links of a law
 pub link_in : (h : Hydraulics) (l : ℕ) → l < (law_of h).links → l < length h.links
 unfolding law_of

@@ -9,4 +9,4 @@ pub mod StateLemmas
 pub mod SumsLemmas
 pub mod KeptLemmas
 pub mod ReportLemmas
-pub mod RoomLemmas
+pub mod RunLemmas

@@ -14,8 +14,10 @@ use Rattle.net_types.specs.declared.network.NodeKind.TheVariants.{Junction, Outf
 use Rattle.net_types.specs.declared.network.Stage.{Stage}
 use Rattle.net_types.specs.declared.network.Stage.TheVariants.{Free, Normal, Fixed, Tidal, Series}
 use Rattle.net_types.specs.declared.project.Project.{Project}
-use Rattle.node_update.specs.Network.{IsFixedStage, IsNode, IsNodeKind}
-use Rattle.net_types.specs.Records.{no_node as no_project_node, node_at as node_of}
+use Rattle.net_types.specs.declared.network.LinkKind.{LinkKind}
+use Rattle.net_types.specs.declared.network.LinkKind.TheVariants.{Conduit, Pump, Orifice, Weir}
+use Rattle.net_types.specs.Ranges.{LinkInRange, LinkKindInRange, NodeKindInRange, StageInRange}
+use Rattle.net_types.specs.Records.{no_link as no_project_link, link_at, node_at as node_of}
 use Rattle.phase_law.specs.Law.{Law}
 use Rattle.phase_law.specs.Ranges.{HeadInRange, SumsInRange, LinkFixedInRange, NodeFixedInRange}
 use Rattle.phase_law.specs.declared.values.LinkFixed.{LinkFixed}
@@ -28,27 +30,35 @@ use Rattle.trial_model.specs.Start.{no_link, no_node, resting}
 use Rattle.trial_model.specs.Trial.{inflow_of, outflow_of, SumsOf}
 use Rattle.trial_model.proofs.FlowLemmas.{flow_sums_most, listed_inflows, listed_outflows, listed_sums}
 use Rattle.trial_model.proofs.RangeLemmas.{listed}
-use Rattle.run_engine.specs.Runnable.{HasInitialDepth, HasInitialFlow, IsRunnable}
-use Rattle.run_engine.specs.States.{kind_head, level_of, no_pipe, opening, opening_flow, opening_head, opening_node, project_law, stage_of}
-use Rattle.run_engine.proofs.LawLemmas.{head_in, law_links, law_nodes, project_law_good}
+use Rattle.link_eval.specs.LawGood.{head_of_law as head_in}
+use Rattle.run_engine.specs.Runnable.{IsRunnable}
+use Rattle.run_engine.specs.States.{kind_flow, kind_head, level_of, opening, opening_flow, opening_head, opening_node, project_law, stage_of}
+use Rattle.run_engine.proofs.LawLemmas.{law_links, law_nodes, project_law_good}
+use Rattle.run_engine.proofs.RunLemmas.{run_node}
 
 -- ---- ranges of a node's parts
-level_within : (stage : Stage) → IsFixedStage stage → IsElevation (level_of stage)
+level_within : (stage : Stage) → StageInRange stage → IsElevation (level_of stage)
 level_within (Fixed level) h = h
-level_within Free h = absurd h
-level_within Normal h = absurd h
-level_within (Tidal curve) h = absurd h
-level_within (Series series) h = absurd h
+level_within Free h = within_up (within_number 0) tt
+level_within Normal h = within_up (within_number 0) tt
+level_within (Tidal curve) h = within_up (within_number 0) tt
+level_within (Series series) h = within_up (within_number 0) tt
 
-stage_within : (kind : NodeKind) → IsNodeKind kind → IsElevation (stage_of kind)
+stage_within : (kind : NodeKind) → NodeKindInRange kind → IsElevation (stage_of kind)
 stage_within (Outfall stage gated) h = level_within stage h
 stage_within (Junction surcharge pond) h = within_up (within_number 0) tt
-stage_within (Storage shape) h = absurd h
+stage_within (Storage shape) h = within_up (within_number 0) tt
 
-open_within : (kind : NodeKind) {invert y0 : ℤ} → IsNodeKind kind → IsElevation invert → IsDepth y0 → IsHead (kind_head kind invert y0)
+open_within : (kind : NodeKind) {invert y0 : ℤ} → NodeKindInRange kind → IsElevation invert → IsDepth y0 → IsHead (kind_head kind invert y0)
 open_within (Outfall stage gated) h i y = within_up (within_max i (level_within stage h)) tt
 open_within (Junction surcharge pond) h i y = within_up (within_add i (within_between y)) tt
-open_within (Storage shape) h i y = absurd h
+open_within (Storage shape) h i y = within_up (within_add i (within_between y)) tt
+
+kind_flow_in : (kind : LinkKind) → LinkKindInRange kind → IsFlow (kind_flow kind)
+kind_flow_in (Conduit long n6 z1 z2 q0 q_max entry6 exit6 avg6 flap) h = h.q0_in
+kind_flow_in (Pump curve on startup shutoff) h = within_up (within_number 0) tt
+kind_flow_in (Orifice bottom offset cd6 flap) h = within_up (within_number 0) tt
+kind_flow_in (Weir notch crest cd6 flap contractions) h = within_up (within_number 0) tt
 
 pub lateral_in : (project : Project) (n : ℕ) → IsFlow (lateral_of project n)
 unfolding lateral_of
@@ -56,19 +66,15 @@ lateral_in project n = record { within = (within_cut _ (le_number tt) (within_mi
 
 -- ---- of nodes and links by their numbers
 module _ {project : Project} (r : IsRunnable project) where
-  is_node : (n : ℕ) → n < length project.nodes → IsNode (node_of project.nodes n)
-  is_node n inside = All-get_or IsNode project.nodes n no_project_node inside r.hydraulic.network.nodes
-
   pub stage_in : (n : ℕ) → n < length project.nodes → IsHead (stage_of (node_of project.nodes n).kind)
-  stage_in n inside = within_up (stage_within (node_of project.nodes n).kind (is_node n inside).kind) tt
+  stage_in n inside = within_up (stage_within (node_of project.nodes n).kind (run_node project r n inside).kind_in) tt
 
   opened_within : (n : ℕ) → n < length project.nodes → IsHead (opening_head (node_of project.nodes n))
-  opened_within n inside =
-      let node = is_node n inside in
-      open_within (node_of project.nodes n).kind node.kind node.invert (All-get_or HasInitialDepth project.nodes n no_project_node inside r.depths)
+  opened_within n inside = let node = run_node project r n inside in open_within (node_of project.nodes n).kind node.kind_in node.invert_in node.y0_in
 
   opened_flow : (l : ℕ) → l < length project.links → IsFlow (opening_flow project.links l)
-  opened_flow l inside = All-get_or HasInitialFlow project.links l no_pipe inside r.flows
+  opened_flow l inside =
+      kind_flow_in (link_at project.links l).kind (All-get_or LinkInRange project.links l no_project_link inside r.faultless.sound.ranges.links).kind_in
 
   law_flow : (l : ℕ) → l < (project_law project).links → IsFlow (opening_flow project.links l)
   law_flow l inside = opened_flow l (omega (arith, law_links project))
@@ -91,10 +97,8 @@ no_flow = record { within = omega arith }
 no_link_in : LinkFixedInRange no_link
 no_link_in = record {
   flow = no_flow;
-  area_least = omega (arith, ints);
-  area_most = omega (arith, ints);
-  setting_least = omega (arith, ints);
-  setting_most = omega (arith, ints);
+  area = record { from = omega (arith, ints); to = omega (arith, ints) };
+  setting = record { from = omega (arith, ints); to = omega (arith, ints) };
   length = no_length;
 }
 
@@ -104,12 +108,9 @@ zero_within = within_up (within_number 0) tt
 amounts_in : {x y z : ℤ} (inflow outflow : ℕ) → x ≡ pos inflow → y ≡ pos outflow → z ≡ pos 0 → inflow ≤ 2 * 10 ^ 16 → outflow ≤ 2 * 10 ^ 16
     → SumsInRange x y z
 amounts_in inflow outflow e1 e2 e3 h1 h2 = record {
-  inflow_least = omega (arith, ints);
-  inflow_most = omega (arith, ints);
-  outflow_least = omega (arith, ints);
-  outflow_most = omega (arith, ints);
-  area_least = omega (arith, ints);
-  area_most = omega (arith, ints);
+  inflow_in = record { from = omega (arith, ints); to = omega (arith, ints) };
+  outflow_in = record { from = omega (arith, ints); to = omega (arith, ints) };
+  area_in = record { from = omega (arith, ints); to = omega (arith, ints) };
 }
 
 -- ---- the opening state
@@ -159,12 +160,13 @@ opening_fits project good r =
             subst (λ (x : NodeFixed). NodeFixedInRange law x) (sym (listed (opening_node project) law.nodes n no_node inside))
             (record {
               head = head_in h zero_within;
-              net = omega arith;
+              net = within_up (within_number 0) tt;
               lateral = lateral_in project n;
               stage = head_in h (stage_in r n (omega (arith, law_nodes project)));
               length = no_length;
             });
       };
+      least = record { from = omega (arith, ints); to = omega (arith, ints) };
     }
 
 -- its inflows and outflows are the sums over its own flows
@@ -173,12 +175,12 @@ unfolding opening
 opening_sums project = listed_sums (project_law project) (opening_flow project.links) (opening project) refl refl refl
 
 -- ---- the steps that make it
-same_nets : {heads heads2 flows flows2 inflows inflows2 outflows outflows2 areas areas2 read read2 : List ℤ} {links links2 : List LinkFixed} {nodes nodes2 : List NodeFixed}
-    → heads ≡ heads2 → flows ≡ flows2 → inflows ≡ inflows2 → outflows ≡ outflows2 → areas ≡ areas2 → read ≡ read2 → links ≡ links2 → nodes ≡ nodes2
+same_nets : {heads heads2 flows flows2 inflows inflows2 outflows outflows2 areas areas2 read read2 : List ℤ} {links links2 : List LinkFixed} {nodes nodes2 : List NodeFixed} {least least2 : ℤ}
+    → heads ≡ heads2 → flows ≡ flows2 → inflows ≡ inflows2 → outflows ≡ outflows2 → areas ≡ areas2 → read ≡ read2 → links ≡ links2 → nodes ≡ nodes2 → least ≡ least2
     → ◌≡◌ {A = Nets}
-    (record { heads = heads; flows = flows; inflows = inflows; outflows = outflows; areas = areas; read_heads = read; links = links; nodes = nodes })
-    (record { heads = heads2; flows = flows2; inflows = inflows2; outflows = outflows2; areas = areas2; read_heads = read2; links = links2; nodes = nodes2 })
-same_nets e1 e2 e3 e4 e5 e6 e7 e8 = cc
+    (record { heads = heads; flows = flows; inflows = inflows; outflows = outflows; areas = areas; read_heads = read; links = links; nodes = nodes; least = least })
+    (record { heads = heads2; flows = flows2; inflows = inflows2; outflows = outflows2; areas = areas2; read_heads = read2; links = links2; nodes = nodes2; least = least2 })
+same_nets e1 e2 e3 e4 e5 e6 e7 e8 e9 = cc
 
 -- flows of a list, in the law of equal hydraulics
 pub flows_at : {h i : Hydraulics} {xs ys : List ℤ} → h ≡ i → xs ≡ ys → FlowsFit (law_of i) ys → FlowsFit (law_of h) xs
@@ -223,3 +225,4 @@ opening_is project s {h} {heads} {flows} {nodes} same rests e1 e2 e3 =
     (ap (λ (t : Nets). t.read_heads) rests ∙ ap (λ (n : ℕ). replicate n (pos 0)) count)
     (ap (λ (t : Nets). t.links) rests ∙ ap (λ (n : ℕ). replicate n no_link) (sym (law_links project)))
     (e3 ∙ ap (list_of (opening_node project)) count)
+    (ap (λ (t : Nets). t.least) rests)

@@ -17,10 +17,11 @@ use Rattle.trial_model.specs.Fits.{Fits, NodesFit, SumsFit, node_fixed_at}
 use Rattle.fixed_num.specs.Lists.{number, list_of}
 use Rattle.trial_model.specs.Start.{no_link, no_node}
 use Rattle.trial_model.proofs.RangeLemmas.{listed}
+use Rattle.link_eval.specs.LawGood.{head_of_law as head_in}
 use Rattle.run_engine.specs.Amounts.{AreAmounts, HaveLaterals}
 use Rattle.run_engine.specs.Runnable.{IsRunnable}
 use Rattle.run_engine.specs.States.{link_start, node_start, prepared, prepared_link, prepared_node, project_law}
-use Rattle.run_engine.proofs.LawLemmas.{head_in, law_nodes, link_in}
+use Rattle.run_engine.proofs.LawLemmas.{law_nodes, link_in}
 use Rattle.run_engine.proofs.OpeningLemmas.{lateral_in, stage_in}
 
 -- ---- the net inflow of a node
@@ -50,7 +51,7 @@ inflows_are {law} {inflows} {outflows} {areas} {xs} {count} fit e same =
     subst (λ (l : List ℤ). AreAmounts count l) (sym same)
     (record {
       many = fit.inflow_count ∙ e;
-      each = λ n inside. let sums = fit.each n (omega arith) in record { from = sums.inflow_least; to = sums.inflow_most };
+      each = λ n inside. (fit.each n (omega arith)).inflow_in;
     })
 
 pub outflows_are : {law : Law} {inflows outflows areas xs : List ℤ} {count : ℕ} → SumsFit law inflows outflows areas → law.nodes ≡ count → xs ≡ outflows → AreAmounts count xs
@@ -58,7 +59,7 @@ outflows_are {law} {inflows} {outflows} {areas} {xs} {count} fit e same =
     subst (λ (l : List ℤ). AreAmounts count l) (sym same)
     (record {
       many = fit.outflow_count ∙ e;
-      each = λ n inside. let sums = fit.each n (omega arith) in record { from = sums.outflow_least; to = sums.outflow_most };
+      each = λ n inside. (fit.each n (omega arith)).outflow_in;
     })
 
 pub laterals_are : {law : Law} {nodes xs : List NodeFixed} {count : ℕ} → NodesFit law nodes → law.nodes ≡ count → xs ≡ nodes → HaveLaterals count xs
@@ -91,10 +92,8 @@ module _ {project : Project} (good : IsGood (hydraulics_of project)) (r : IsRunn
       let area = mid_area_at-between (hydraulics_of project) l _ _ good (link_in (hydraulics_of project) l inside) in
       record {
         flow = fits.flows.each l inside;
-        area_least = area.from;
-        area_most = area_fits area;
-        setting_least = omega (arith, ints);
-        setting_most = omega (arith, ints);
+        area = record { from = area.from; to = area_fits area };
+        setting = record { from = omega (arith, ints); to = omega (arith, ints) };
         length = length_in;
       }
     where
@@ -106,7 +105,7 @@ module _ {project : Project} (good : IsGood (hydraulics_of project)) (r : IsRunn
       let sums = fits.sums.each n inside in
       record {
         head = fits.heads.each n inside;
-        net = (net_within (fits.nodes.each n inside).lateral (record { from = sums.inflow_least; to = sums.inflow_most }) (record { from = sums.outflow_least; to = sums.outflow_most })).within;
+        net = net_within (fits.nodes.each n inside).lateral sums.inflow_in sums.outflow_in;
         lateral = lateral_in project n;
         stage = head_in (hydraulics_of project) (stage_in r n (omega (arith, law_nodes project)));
         length = length_in;
@@ -121,6 +120,7 @@ module _ {project : Project} (good : IsGood (hydraulics_of project)) (r : IsRunn
         flows = fits.flows;
         sums = fits.sums;
         read_heads = fits.read_heads;
+        least = fits.least;
         links = record {
           count = length-map-range_with_len (prepared_link project s dt) 0 law.links;
           each = λ l inside. subst (λ (x : LinkFixed). LinkFixedInRange x) (sym (listed (prepared_link project s dt) law.links l no_link inside)) (link_ready l inside);

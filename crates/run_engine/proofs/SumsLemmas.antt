@@ -10,53 +10,36 @@ use Rattle.net_types.specs.declared.project.Project.{Project}
 use Rattle.net_types.specs.Records.{node_at, no_node}
 use Rattle.summaries.specs.Figures.{Figures, AreFigures, AreSummaries, inverts_of, new_figures, node_summary, link_summary}
 use Rattle.summaries.specs.Peaks.{peak_of}
-use Rattle.summaries.specs.Steps.{new_node_summary, new_link_summary, no_node_summary}
+use Rattle.summaries.specs.Steps.{no_node_summary, no_link_summary}
 use Rattle.trial_model.specs.Fits.{FlowsFit, HeadsFit}
 use Rattle.fixed_num.specs.Lists.{number, list_of}
 use Rattle.trial_model.specs.declared.nets.Nets.{Nets}
+use Rattle.link_eval.specs.LawGood.{head_in as head_within}
 use Rattle.run_engine.specs.Kept.{AreSumsOf}
 use Rattle.run_engine.specs.Results.{floods_at, node_summaries, link_summaries}
 use Rattle.run_engine.specs.States.{state}
 use Rattle.run_engine.specs.Times.{moment_of}
-use Rattle.run_engine.proofs.LawLemmas.{head_within, law_nodes}
+use Rattle.run_engine.proofs.LawLemmas.{law_nodes}
 use Rattle.continuity.specs.Account.{floods_of, flood_at}
 use Rattle.link_eval.specs.Hydraulics.{hydraulics_of, law_of}
 use Rattle.link_eval.specs.declared.hydraulics.Hydraulics.{Hydraulics}
 
 -- ---- lists
-pub copies_are : {A : Type 0} (x : A) (f : ℕ → A) (count : ℕ) → ((n : ℕ) → f n ≡ x) → replicate count x ≡ list_of f count
-copies_are x f count each = fill_by_all f (replicate count x) count x (length-replicate count x) (λ n h. get_or-replicate count n x x h ∙ sym (each n))
-
 same_lists : {A : Type 0} (none : A) (f g : ℕ → A) (count : ℕ) → ((n : ℕ) → n < count → f n ≡ g n) → list_of f count ≡ list_of g count
 same_lists none f g count each =
     fill_by_all g (list_of f count) count none (length-map-range_with_len f 0 count) (λ n h. get_or-map-range_with_len f 0 count n n none h (omega arith) ∙ each n h)
 
 -- ---- of no state
-node_none : (run : ℕ → Nets) (flooded : ℕ → List ℤ) (moments : ℕ → ℤ) (invert : ℤ) (n : ℕ) → node_summary run flooded moments 0 invert n ≡ new_node_summary
-unfolding node_summary peak_of
-node_none run flooded moments invert n = refl
-
-link_none : (run : ℕ → Nets) (moments : ℕ → ℤ) (l : ℕ) → link_summary run moments 0 l ≡ new_link_summary
-unfolding link_summary peak_of
-link_none run moments l = refl
-
-new_summaries : (run : ℕ → Nets) (flooded : ℕ → List ℤ) (moments : ℕ → ℤ) (project : Project) → AreSummaries run flooded moments (new_figures project)
-new_summaries run flooded moments project =
-    let inverts = inverts_of project.nodes in
-    record {
-      nodes = copies_are new_node_summary (λ n. node_summary run flooded moments 0 (number inverts n) n) (length project.nodes) (λ n. node_none run flooded moments (number inverts n) n)
-          ∙ ap (list_of (λ n. node_summary run flooded moments 0 (number inverts n) n)) (sym (length-map project.nodes (λ (node : Node). node.invert)));
-      links = copies_are new_link_summary (link_summary run moments 0) (length project.links) (link_none run moments)
-          ∙ ap (list_of (link_summary run moments 0)) (sym (length-replicate (length project.links) new_link_summary));
-    }
+no_state : (last : ℕ) → 0 ≡ last + 1 → ⊥
+no_state last e = omega (arith, e)
 
 pub new_sums : (project : Project) → AreFigures (new_figures project) → AreSumsOf project 0 (new_figures project)
 new_sums project good = record {
   good = good;
   states = refl;
   inverts = refl;
-  links = length-replicate (length project.links) new_link_summary;
-  summaries = new_summaries (state project) (floods_at project) (moment_of project.options) project;
+  links = length-replicate (length project.links) no_link_summary;
+  summaries = record { nodes = λ last e. absurd (no_state last e); links = λ last e. absurd (no_state last e) };
 }
 
 -- ---- of all states so far
@@ -66,15 +49,15 @@ invert_is nodes n h = get_or-map (λ (node : Node). node.invert) nodes n no_node
 pub nodes_are : (project : Project) (k : ℕ) (figures : Figures) → AreSumsOf project (k + 1) figures → figures.nodes ≡ node_summaries project k
 unfolding node_summaries
 nodes_are project k figures sums =
-    let of = λ (invert : ℤ) (n : ℕ). node_summary (state project) (floods_at project) (moment_of project.options) (k + 1) invert n in
+    let of = λ (invert : ℤ) (n : ℕ). node_summary (state project) (floods_at project) (moment_of project.options) k invert n in
     let inverts = inverts_of project.nodes in
-    let here : figures.nodes ≡ list_of (λ n. of (number inverts n) n) (length inverts) = rw (sums.states, sums.inverts) at sums.summaries.nodes in
+    let here : figures.nodes ≡ list_of (λ n. of (number inverts n) n) (length inverts) = rw sums.inverts at sums.summaries.nodes k sums.states in
     here ∙ ap (list_of (λ n. of (number inverts n) n)) (length-map project.nodes (λ (node : Node). node.invert))
     ∙ same_lists no_node_summary (λ n. of (number inverts n) n) (λ n. of (node_at project.nodes n).invert n) (length project.nodes) (λ n h. ap (λ (z : ℤ). of z n) (invert_is project.nodes n h))
 
 pub links_are : (project : Project) (k : ℕ) (figures : Figures) → AreSumsOf project (k + 1) figures → figures.links ≡ link_summaries project k
 unfolding link_summaries
-links_are project k figures sums = rw (sums.states, sums.links) at sums.summaries.links
+links_are project k figures sums = rw sums.links at sums.summaries.links k sums.states
 
 -- ---- what a state gives to the summaries, in range
 pub head_at : (h : Hydraulics) (heads : List ℤ) → HeadsFit (law_of h) heads → (n : ℕ) → IsHead (number heads n)

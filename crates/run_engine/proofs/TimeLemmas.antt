@@ -6,8 +6,7 @@ use Rattle.std.proofs.lemmas.Nat.{div_below}
 use Rattle.fixed_num.specs.Ranges.{IsBetween, IsWithin, IsStepLength}
 use Rattle.fixed_num.proofs.Bounds.{within_mul, within_between, fits64}
 use Rattle.net_types.specs.declared.options.Options.{Options}
-use Rattle.run_engine.specs.Runnable.{AreRunOptions}
-use Rattle.run_engine.specs.Times.{duration_of, steps_of, moment_of, length_of}
+use Rattle.run_engine.specs.Times.{AreRunOptions, duration_of, steps_of, moment_of, length_of}
 
 -- a number that is at least 0
 whole : (z : ℤ) → pos 0 ≤ℤ z → z ≡ pos (unsigned_abs z)

@@ -44,7 +44,7 @@ counts_after project k = record {
 -- the summaries of the states 0 to k
 unfoldable pub node_summaries : Project → ℕ → List NodeSummary
 node_summaries project k =
-    list_of (λ n. node_summary (state project) (floods_at project) (moment_of project.options) (k + 1) (node_at project.nodes n).invert n) (length project.nodes)
+    list_of (λ n. node_summary (state project) (floods_at project) (moment_of project.options) k (node_at project.nodes n).invert n) (length project.nodes)
 
 unfoldable pub link_summaries : Project → ℕ → List LinkSummary
-link_summaries project k = list_of (link_summary (state project) (moment_of project.options) (k + 1)) (length project.links)
+link_summaries project k = list_of (link_summary (state project) (moment_of project.options) k) (length project.links)

@@ -1,5 +1,5 @@
 -- The states of a run (Reference Manual volume II, chapter 3; this project's profile).
-use Rattle.std.specs.Prelude.{ℕ, zero, suc, false, List, [], replicate, None, ℤ, pos, ◌+ℤ◌, ◌-ℤ◌, slice_index_or}
+use Rattle.std.specs.Prelude.{ℕ, zero, suc, List, replicate, ℤ, pos, ◌+ℤ◌, ◌-ℤ◌}
 use Rattle.std.specs.Int.{int_max}
 use Rattle.net_types.specs.declared.network.Link.{Link}
 use Rattle.net_types.specs.declared.network.LinkKind.{LinkKind}
@@ -22,7 +22,7 @@ use Rattle.trial_model.specs.Start.{no_link}
 use Rattle.trial_model.specs.Trial.{inflow_of, outflow_of}
 use Rattle.link_eval.specs.declared.hydraulics.Hydraulics.{Hydraulics}
 use Rattle.link_eval.specs.Hydraulics.{hydraulics_of, law_of, mid_area_at}
-use Rattle.net_types.specs.Records.{node_at as node_of}
+use Rattle.net_types.specs.Records.{link_at, node_at as node_of}
 use Rattle.time_series.specs.LateralFlow.{lateral_of}
 use Rattle.run_engine.specs.Times.{length_of}
 
@@ -61,11 +61,8 @@ kind_flow (Pump curve on startup shutoff) = pos 0
 kind_flow (Orifice bottom offset cd6 flap) = pos 0
 kind_flow (Weir notch crest cd6 flap contractions) = pos 0
 
-abbrev pub no_pipe : Link
-no_pipe = record { name = []; first = 0; second = 0; kind = Pump 0 false (pos 0) (pos 0); «section» = None }
-
 abbrev pub opening_flow : List Link → ℕ → ℤ
-opening_flow links l = kind_flow (slice_index_or links l no_pipe).kind
+opening_flow links l = kind_flow (link_at links l).kind
 
 -- what a node has of its own at a moment: its lateral inflow and its stage
 abbrev pub opening_node : Project → ℕ → NodeFixed
@@ -85,6 +82,7 @@ opening project =
       read_heads = replicate law.nodes (pos 0);
       links = replicate law.links no_link;
       nodes = list_of (opening_node project) law.nodes;
+      least = pos 0;
     }
 
 -- ---- a step

@@ -17,8 +17,6 @@ mod output;
 mod prepare;
 mod run;
 mod step;
-#[cfg(test)]
-mod tests;
 mod times;
 
 pub use run::{Run, RunFault, open_run};

@@ -3,12 +3,11 @@ ghost use Rattle.std.specs.Prelude.{◌≡◌, ◌<◌, ◌≤◌, ◌^◌, leng
 ghost use Rattle.std.specs.List.{All};
 ghost use Rattle.fixed_num.specs.Ranges.{IsElevation, IsDepth};
 ghost use Rattle.link_eval.specs.Hydraulics.{hydraulics_of};
-ghost use Rattle.node_update.specs.Network.{IsFixedStage, IsNode, IsNodeKind};
+ghost use Rattle.net_types.specs.Ranges.{NodeInRange};
 ghost use Rattle.net_types.specs.Records.{node_at as node_of};
-ghost use Rattle.time_series.specs.LateralFlow.{HasConstantInflows};
 ghost use Rattle.trial_model.specs.Start.{resting};
 ghost use Rattle.fixed_num.specs.Lists.{list_of};
-ghost use Rattle.run_engine.specs.Runnable.{HasInitialDepth, HasInitialFlow, IsRunnable};
+ghost use Rattle.run_engine.specs.Runnable.{IsRunnable};
 ghost use Rattle.run_engine.specs.States.{kind_flow, kind_head, level_of, opening, opening_flow, opening_head, opening_node, stage_of};
 
 use link_eval::HydraulicLaw;
@@ -52,8 +51,7 @@ fn open_nets(project: &Project, law: &HydraulicLaw, nets: &mut Nets)
 
 // Sets the initial head of every node, in µm.
 fn open_heads(nodes: &[Node], heads: &mut [i64])
-    requires nodes { All IsNode nodes.now }
-    requires depths { All HasInitialDepth nodes.now }
+    requires nodes { All NodeInRange nodes.now }
     requires heads { length heads.old ≡ length nodes.now }
     ensures { heads.new ≡ list_of (λ n. opening_head (node_of nodes.now n)) (length nodes.now) }
 {
@@ -64,8 +62,7 @@ fn open_heads(nodes: &[Node], heads: &mut [i64])
 
 // The initial head of a node, in µm.
 fn open_head(nodes: &[Node], n: usize) -> i64
-    requires nodes { All IsNode nodes.now }
-    requires depths { All HasInitialDepth nodes.now }
+    requires nodes { All NodeInRange nodes.now }
     requires n { n < length nodes.now }
     ensures { result ≡ opening_head (node_of nodes.now n) }
 {
@@ -75,7 +72,6 @@ fn open_head(nodes: &[Node], n: usize) -> i64
 
 // The initial head of a node of this kind, in µm.
 fn kind_head(kind: &NodeKind, invert: i64, y0: i64) -> i64
-    requires kind { IsNodeKind kind.now }
     requires invert { IsElevation invert }
     requires y0 { IsDepth y0 }
     ensures { result ≡ kind_head kind.now invert y0 }
@@ -138,7 +134,7 @@ fn open_nodes(project: &Project, fixed: &mut [NodeFixed])
 
 // What a node has of its own at the beginning: its lateral inflow in cm³/s and its stage in µm.
 fn open_node(project: &Project, n: u32) -> NodeFixed
-    requires inflows { HasConstantInflows project.now }
+    requires project { IsRunnable project.now }
     requires n { n < length project.now.nodes }
     ensures { result ≡ opening_node project.now n }
 {

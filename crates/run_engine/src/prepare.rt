@@ -2,7 +2,6 @@
 ghost use Rattle.std.specs.Prelude.{◌≡◌, ◌<◌, length};
 ghost use Rattle.link_eval.specs.Hydraulics.{hydraulics_of, law_of, mid_area_at};
 ghost use Rattle.fixed_num.specs.Ranges.{IsStepLength, IsFlow};
-ghost use Rattle.time_series.specs.LateralFlow.{HasConstantInflows};
 ghost use Rattle.trial_model.specs.Fits.{Fits, FlowsFit, HeadsFit, node_fixed_at};
 ghost use Rattle.fixed_num.specs.Lists.{number, list_of};
 ghost use Rattle.run_engine.specs.Runnable.{IsRunnable};
@@ -111,7 +110,7 @@ fn node_start(
     outflows: &[i64],
     nodes: &[NodeFixed],
 ) -> NodeFixed
-    requires project { HasConstantInflows project.now }
+    requires project { IsRunnable project.now }
     requires n { n < length project.now.nodes }
     requires heads { length heads.now ≡ length project.now.nodes }
     requires inflows { AreAmounts (length project.now.nodes) inflows.now }

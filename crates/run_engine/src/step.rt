@@ -56,6 +56,7 @@ fn keep(nets: &Nets, before: &mut Nets)
     copy(&nets.read_heads, &mut before.read_heads);
     copy(&nets.links, &mut before.links);
     copy(&nets.nodes, &mut before.nodes);
+    before.least = nets.least;
 }
 
 // Copies all items of a list over another of the same length.

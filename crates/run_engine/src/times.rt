@@ -1,8 +1,7 @@
 // The steps of a run and their moments.
 ghost use Rattle.std.specs.Prelude.{◌≡◌, ◌<◌, ◌≤◌, pos};
 ghost use Rattle.fixed_num.specs.Ranges.{IsBetween, IsStepLength};
-ghost use Rattle.run_engine.specs.Runnable.{AreRunOptions};
-ghost use Rattle.run_engine.specs.Times.{length_of, moment_of, steps_of};
+ghost use Rattle.run_engine.specs.Times.{AreRunOptions, length_of, moment_of, steps_of};
 
 use net_types::Options;
 

@@ -3,6 +3,7 @@ use Rattle.std.proofs.lemmas.Int.{to_z-of_z}
 use Rattle.run_engine.specs.Results.{account_at}
 use Rattle.run_engine.proofs.KeptLemmas.{account_here, states_step}
 use Rattle.run_engine.proofs.StateLemmas.{floods_more}
+use Rattle.run_engine.proofs.RunLemmas.{run_options}
 use Rattle.run_engine.proofs.one_step.add_account.Goals as goal
 
 pub account_step-account-requires-clause-step : goal.account_step-account-requires-clause-step
@@ -27,3 +28,6 @@ returns c =
         total = c.add.ensures.total (account_at project) c.requires.total.total (here ∙ ap (account_at project) (sym c.requires.total.steps));
       };
     }
+
+pub length-dt-requires-clause-options : goal.length-dt-requires-clause-options
+length-dt-requires-clause-options c = run_options c.args.project.now c.requires.project

@@ -6,6 +6,7 @@ use Rattle.run_engine.specs.States.{state}
 use Rattle.run_engine.specs.Times.{moment_of}
 use Rattle.run_engine.proofs.LawLemmas.{law_nodes, law_links}
 use Rattle.run_engine.proofs.SumsLemmas.{flow_at, head_at, floods_count, inverts_count}
+use Rattle.run_engine.proofs.RunLemmas.{run_options}
 use Rattle.run_engine.proofs.one_step.add_state.Goals as goal
 
 pub add_state-requires-clause-heads : goal.add_state-requires-clause-heads
@@ -45,3 +46,6 @@ returns c =
             (ap (moment_of project.options) sums.states ∙ sym c.moment-moment.ensures.value);
       };
     }
+
+pub moment-moment-requires-clause-options : goal.moment-moment-requires-clause-options
+moment-moment-requires-clause-options c = run_options c.args.project.now c.requires.project

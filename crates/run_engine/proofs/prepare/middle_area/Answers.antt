@@ -1,9 +1,9 @@
 use Rattle.std.proofs.Common.{rules, ℕ, ◌<◌, ap, arith, FitsSigned, w64}
 use Rattle.std.proofs.lemmas.Int.{to_z-of_z}
 use Rattle.link_eval.specs.Hydraulics.{law_of}
-use Rattle.link_eval.specs.LawGood.{law_good}
+use Rattle.link_eval.specs.LawGood.{head_in as head_within, law_good}
 use Rattle.fixed_num.specs.Lists.{number}
-use Rattle.run_engine.proofs.LawLemmas.{head_within, link_in}
+use Rattle.run_engine.proofs.LawLemmas.{link_in}
 use Rattle.run_engine.proofs.prepare.middle_area.Goals as goal
 
 pub bounds-heads-near : goal.bounds-heads-near
