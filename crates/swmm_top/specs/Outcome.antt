@@ -12,7 +12,7 @@ use Rattle.project_check.specs.ProjectFaults.{project_faults}
 use Rattle.report_writer.specs.AcceptedReport.{accepted_report}
 use Rattle.report_writer.specs.FaultReports.{line_faults_report, project_faults_report, input_too_long_report}
 use Rattle.run_engine.specs.Report.{report_of}
-use Rattle.swmm_top.specs.CommandWords.{Command, run, check}
+use Rattle.swmm_top.specs.CommandWords.{Command}
 use Rattle.swmm_top.specs.Input.{input_limit}
 use Rattle.swmm_top.specs.declared.mode.Mode.{Mode}
 use Rattle.swmm_top.specs.declared.mode.Mode.TheVariants.{Run, Check}
@@ -64,17 +64,22 @@ IsInputOutcome mode input given = MatchBool (nat_lt input_limit (length input)) 
 -- what a command gives for an input and a hotstart
 unfoldable pub IsOutcome : Option Command → List ℕ → List ℕ → Outcome → Type 0
 IsOutcome None input hotstart given = given ≡ usage
-IsOutcome (Some (run inp rpt)) input hotstart given = IsInputOutcome Run input given
-IsOutcome (Some (check inp rpt)) input hotstart given = IsInputOutcome Check input given
+IsOutcome (Some command) input hotstart given = IsInputOutcome command.mode input given
+
+-- what a command reads of a source: nothing where it names no file
+abbrev pub read_of : Option (List ℕ) → Option (List ℕ) → Option (List ℕ)
+read_of None left = Some []
+read_of (Some name) left = left
 
 -- what a command reads of its input's source: one that is no command reads nothing
 abbrev pub input_of : Option Command → Option (List ℕ) → Option (List ℕ)
 input_of None left = Some []
-input_of (Some command) left = left
+input_of (Some command) left = read_of command.inp left
 
--- what a command reads of its hotstart's source: no command reads one yet
+-- what a command reads of its hotstart's source
 abbrev pub hotstart_of : Option Command → Option (List ℕ) → Option (List ℕ)
-hotstart_of command left = Some []
+hotstart_of None left = Some []
+hotstart_of (Some command) left = read_of command.hot_in left
 
 -- the fact holds of an outcome of the command, where each source that it uses tells its bytes
 abbrev pub Gives : Option Command → Option (List ℕ) → Option (List ℕ) → (Outcome → Type 0) → Type 0

@@ -1,13 +1,12 @@
 // The report of an input.
 ghost use Rattle.std.specs.Prelude.{List as Sequence, ℕ, ◌≤◌, length, ◌≡◌, ◌⊎◌, [], Ok, Err, IfOk, OnOk, OnErr, IsErrOf};
-ghost use Rattle.fault_ports.specs.Causes.{Rose};
 ghost use Rattle.fault_ports.specs.Output.{Puts};
 ghost use Rattle.inp_lines.specs.Lines.{lines_of};
 ghost use Rattle.inp_reader.specs.Reading.{ReadsAs};
 ghost use Rattle.inp_reader.specs.Soundness.{AcceptsSound, IsSound};
 ghost use Rattle.report_writer.specs.FaultReports.{input_too_long_report, line_faults_report};
 ghost use Rattle.run_engine.specs.Runnable.{IsRunnable};
-ghost use Rattle.swmm_top.specs.Answers.{ReportsOutcome};
+ghost use Rattle.swmm_top.specs.Answers.{EndsReport, ReportsOutcome};
 ghost use Rattle.swmm_top.specs.Input.{input_limit};
 ghost use Rattle.swmm_top.specs.Outcome.{answer_of, answer_unless, project_outcome};
 
@@ -31,9 +30,7 @@ pub(crate) fn report_input<W: Sink>(
     rpt: &mut W,
 ) -> Result<Status, TopFault>
     ensures outcome { ReportsOutcome mode input.now (W.held rpt.old) (W.held rpt.new) result }
-    ensures no_usage { IfOk result (λ status. status ≡ Status.Usage → ⊥) }
-    ensures cause { IsErrOf result (TopFault.Write Port.Rpt) → Rose (W.faults rpt.old) (W.faults rpt.new) }
-    ensures faults { OnErr result (IsErrOf result TopFault.OutOfMemory ⊎ IsErrOf result (TopFault.Write Port.Rpt)) }
+    ensures ends { EndsReport W.faults rpt.old rpt.new result }
 {
     if input.len() > INPUT_LIMIT {
         return report_too_long(rpt);
@@ -53,9 +50,7 @@ fn report_read<W: Sink>(
 ) -> Result<Status, TopFault>
     requires { AcceptsSound read }
     ensures outcome { (input : Sequence ℕ) → length input ≤ input_limit → ReadsAs (lines_of input) read → ReportsOutcome mode input (W.held rpt.old) (W.held rpt.new) result }
-    ensures no_usage { IfOk result (λ status. status ≡ Status.Usage → ⊥) }
-    ensures cause { IsErrOf result (TopFault.Write Port.Rpt) → Rose (W.faults rpt.old) (W.faults rpt.new) }
-    ensures faults { OnErr result (IsErrOf result TopFault.OutOfMemory ⊎ IsErrOf result (TopFault.Write Port.Rpt)) }
+    ensures ends { EndsReport W.faults rpt.old rpt.new result }
 {
     match read {
         Read::Refused(faults) => report_line_faults(&faults, rpt),
@@ -67,8 +62,7 @@ fn report_read<W: Sink>(
 fn report_too_long<W: Sink>(rpt: &mut W) -> Result<Status, TopFault>
     ensures status { IfOk result (λ status. status ≡ Status.Refused) }
     ensures report { Puts (W.held rpt.old) (W.held rpt.new) (input_too_long_report) result }
-    ensures cause { IsErrOf result (TopFault.Write Port.Rpt) → Rose (W.faults rpt.old) (W.faults rpt.new) }
-    ensures faults { OnErr result (IsErrOf result (TopFault.Write Port.Rpt)) }
+    ensures ends { EndsReport W.faults rpt.old rpt.new result }
 {
     ended(Status::Refused, put_input_too_long(rpt))
 }
@@ -77,8 +71,7 @@ fn report_too_long<W: Sink>(rpt: &mut W) -> Result<Status, TopFault>
 fn report_line_faults<W: Sink>(faults: &List<LineFault>, rpt: &mut W) -> Result<Status, TopFault>
     ensures status { IfOk result (λ status. status ≡ Status.Refused) }
     ensures report { Puts (W.held rpt.old) (W.held rpt.new) (line_faults_report faults.now) result }
-    ensures cause { IsErrOf result (TopFault.Write Port.Rpt) → Rose (W.faults rpt.old) (W.faults rpt.new) }
-    ensures faults { OnErr result (IsErrOf result (TopFault.Write Port.Rpt)) }
+    ensures ends { EndsReport W.faults rpt.old rpt.new result }
 {
     ended(Status::Refused, put_line_faults(rpt, faults))
 }
@@ -93,9 +86,7 @@ fn report_project<W: Sink>(
     requires { IsSound project }
     ensures status { IfOk result (λ status. status ≡ (project_outcome mode project).status) }
     ensures report { Puts (W.held rpt.old) (W.held rpt.new) (project_outcome mode project).report result }
-    ensures no_usage { IfOk result (λ status. status ≡ Status.Usage → ⊥) }
-    ensures cause { IsErrOf result (TopFault.Write Port.Rpt) → Rose (W.faults rpt.old) (W.faults rpt.new) }
-    ensures faults { OnErr result (IsErrOf result TopFault.OutOfMemory ⊎ IsErrOf result (TopFault.Write Port.Rpt)) }
+    ensures ends { EndsReport W.faults rpt.old rpt.new result }
 {
     match check(alloc, &project) {
         Ok(faults) => report_checked(alloc, mode, project, &faults, rpt),
@@ -114,9 +105,7 @@ fn report_checked<W: Sink>(
     requires { faults.now ≡ [] → IsRunnable project }
     ensures status { IfOk result (λ status. status ≡ (answer_unless faults.now (answer_of mode project)).status) }
     ensures report { Puts (W.held rpt.old) (W.held rpt.new) (answer_unless faults.now (answer_of mode project)).report result }
-    ensures no_usage { IfOk result (λ status. status ≡ Status.Usage → ⊥) }
-    ensures cause { IsErrOf result (TopFault.Write Port.Rpt) → Rose (W.faults rpt.old) (W.faults rpt.new) }
-    ensures faults { OnErr result (IsErrOf result TopFault.OutOfMemory ⊎ IsErrOf result (TopFault.Write Port.Rpt)) }
+    ensures ends { EndsReport W.faults rpt.old rpt.new result }
 {
     match faults.as_slice() {
         [] => report_answer(alloc, mode, project, rpt),
@@ -134,9 +123,7 @@ fn report_answer<W: Sink>(
     requires { IsRunnable project }
     ensures status { IfOk result (λ status. status ≡ (answer_of mode project).status) }
     ensures report { Puts (W.held rpt.old) (W.held rpt.new) (answer_of mode project).report result }
-    ensures no_usage { IfOk result (λ status. status ≡ Status.Usage → ⊥) }
-    ensures cause { IsErrOf result (TopFault.Write Port.Rpt) → Rose (W.faults rpt.old) (W.faults rpt.new) }
-    ensures faults { OnErr result (IsErrOf result TopFault.OutOfMemory ⊎ IsErrOf result (TopFault.Write Port.Rpt)) }
+    ensures ends { EndsReport W.faults rpt.old rpt.new result }
 {
     match mode {
         Mode::Run => report_run(alloc, project, rpt),
