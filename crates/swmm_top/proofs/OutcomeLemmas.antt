@@ -14,7 +14,7 @@ use Rattle.inp_lines.specs.Faults.{cut}
 use Rattle.inp_lines.specs.Lines.{lines_of}
 use Rattle.inp_reader.specs.LineFaults.{line_faults}
 use Rattle.inp_reader.specs.Meaning.{Means}
-use Rattle.inp_reader.proofs.MeaningLemmas.{means_unique}
+use Rattle.inp_reader.proofs.MeaningLemmas.{means_some, means_unique}
 use Rattle.fault_ports.specs.Output.{Puts, AppendsPrefix}
 use Rattle.project_check.specs.ProjectFaults.{project_faults}
 use Rattle.report_writer.specs.FaultReports.{line_faults_report, input_too_long_report}
@@ -267,3 +267,22 @@ pub outcome_one : (command : Option Command) (input hotstart : List ℕ) (a b : 
 unfolding IsOutcome
 outcome_one None input hotstart a b p q = p ∙ sym q
 outcome_one (Some command) input hotstart a b p q = input_one command.mode input a b p q
+
+-- the same words and bytes have an outcome
+lines_some : (mode : Mode) (lines : List Line) → (given : Outcome) × IsLinesOutcome mode lines given
+lines_some mode lines =
+    bare_or (line_faults lines) _
+    (λ bare. let meant = means_some lines bare in (project_outcome mode meant.0, lines_meant mode lines meant.0 bare meant.1))
+    (λ some. (refused (line_faults_report (cut (line_faults lines))), lines_refused mode lines (cut (line_faults lines)) some refl))
+
+input_some : (mode : Mode) (input : List ℕ) → (given : Outcome) × IsInputOutcome mode input given
+input_some mode input =
+    elim (cases_lt input_limit (length input)) [
+      | inl more ↦ (refused input_too_long_report, input_long mode input more)
+      | inr few ↦ let given = lines_some mode (lines_of input) in (given.0, input_short mode input given.0 few given.1)
+    ]
+
+pub outcome_some : (command : Option Command) (input hotstart : List ℕ) → (given : Outcome) × IsOutcome command input hotstart given
+unfolding IsOutcome
+outcome_some None input hotstart = (usage, refl)
+outcome_some (Some command) input hotstart = input_some command.mode input
