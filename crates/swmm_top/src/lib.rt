@@ -2,8 +2,9 @@
 //! the repository: where it answers, the status and the bytes that the report and the hotstart gained are those of an
 //! outcome of the words and the bytes (`specs/Outcome.antt`), and `outcome_exists` and `outcome_is_unique` are the laws
 //! that they have one outcome and no two; the input was read to its end, and a port's fault is answered exactly where
-//! one of its calls failed, after which no call came (`specs/Answers.antt`). `run_alone_top` and `check_top` carry the same clauses for their commands and always return.
-//! `file_names` gives the names that the words have (`specs/CommandWords.antt`, `specs/Names.antt`).
+//! one of its calls failed, after which no call came (`specs/Answers.antt`). `run_alone_top` and `check_top` carry the
+//! same clauses for their commands and always return. `file_names` gives the names that the words have
+//! (`specs/CommandWords.antt`, `specs/Names.antt`), and a fault's text is `specs/TopFaults.antt`.
 #![tactic(auto)]
 
 mod command;
