@@ -57,7 +57,8 @@ pub(crate) fn command_over<R: AllocGlobal + Files + Threads + Wait + Sync>(
     words: &List<Text>,
     ports: &mut Ports<'_, R>,
 ) -> Result<Status, TopFault>
-    ensures causes { HasCauses ports.old.inp.faults ports.new.inp.faults ports.old.hot_in.faults ports.new.hot_in.faults ports.old.rpt.faults ports.new.rpt.faults ports.old.hot_out.faults ports.new.hot_out.faults result }
+    ensures causes { HasCauses ports.old.inp.faults ports.new.inp.faults ports.old.hot_in.faults ports.new.hot_in.faults
+        ports.old.rpt.faults ports.new.rpt.faults ports.old.hot_out.faults ports.new.hot_out.faults result }
     ensures unused { (ports.new.hot_in ≡ ports.old.hot_in) × (ports.new.hot_out ≡ ports.old.hot_out) }
 {
     swmm_top(

@@ -24,13 +24,16 @@ pub record HasGiven (rpt₀ rpt hot₀ hot : Option (List ℕ)) (status : Status
   pub hotstart : Appends hot₀ hot given.hotstart
 
 -- what the command gives, where the call ended; else the report gained a front of the report of every outcome
-pub record GivesOutcome (command : Option Command) (inp hot_in rpt₀ rpt hot₀ hot : Option (List ℕ)) (result : Result Status TopFault) : Type 0 where
+pub record GivesOutcome (command : Option Command) (inp hot_in rpt₀ rpt hot₀ hot : Option (List ℕ))
+    (result : Result Status TopFault) : Type 0 where
   pub ended : IfOk result (λ status. Gives command inp hot_in (HasGiven rpt₀ rpt hot₀ hot status))
   pub failed : OnErr result (GivesOnly command inp hot_in (λ given. AppendsPrefix rpt₀ rpt given.report))
 
 -- the same of a mode, an input and its report alone
-pub record ReportsOutcome (mode : Mode) (input : List ℕ) (rpt₀ rpt : Option (List ℕ)) (result : Result Status TopFault) : Type 0 where
-  pub ended : IfOk result (λ status. (given : Outcome) × IsInputOutcome mode input given × (status ≡ given.status) × Appends rpt₀ rpt given.report)
+pub record ReportsOutcome (mode : Mode) (input : List ℕ) (rpt₀ rpt : Option (List ℕ)) (result : Result Status TopFault)
+    : Type 0 where
+  pub ended : IfOk result (λ status.
+      (given : Outcome) × IsInputOutcome mode input given × (status ≡ given.status) × Appends rpt₀ rpt given.report)
   pub failed : OnErr result ((given : Outcome) → IsInputOutcome mode input given → AppendsPrefix rpt₀ rpt given.report)
 
 -- a port failed exactly where the answer is this fault: then one of its calls did, the last of them
@@ -39,13 +42,16 @@ pub record FailsOnlyAt {T E : Type 0} (fault : E) (before now : Faults) (result 
   pub kept : (IsErrOf result fault → ⊥) → HasNotFailed before now
 
 -- a fault of a port comes exactly where that port failed. So where the call ended, and where memory was wanting, no
--- port failed; and after a fault the other ports haven't
-pub record HasCauses (inp₀ inp hot_in₀ hot_in rpt₀ rpt hot_out₀ hot_out : Faults) (result : Result Status TopFault) : Type 0 where
+-- port failed; after a fault the other ports haven't; and where no port failed only memory can be wanting
+pub record HasCauses (inp₀ inp hot_in₀ hot_in rpt₀ rpt hot_out₀ hot_out : Faults) (result : Result Status TopFault)
+    : Type 0 where
   pub read_input : FailsOnlyAt (Read Inp) inp₀ inp result
   pub read_hotstart : FailsOnlyAt (Read HotIn) hot_in₀ hot_in result
   pub write_report : FailsOnlyAt (Write Rpt) rpt₀ rpt result
   pub write_hotstart : FailsOnlyAt (Write HotOut) hot_out₀ hot_out result
   pub ports : IfErr result IsFaultOfPort
+  pub complete : OnErr result (IsErrOf result OutOfMemory
+      ⊎ (HasFailed inp₀ inp ⊎ (HasFailed hot_in₀ hot_in ⊎ (HasFailed rpt₀ rpt ⊎ HasFailed hot_out₀ hot_out))))
 
 -- where a source could not be read, or memory was wanting, this holds
 abbrev pub BeforeWriting : Result Status TopFault → Type 0 → Type 0

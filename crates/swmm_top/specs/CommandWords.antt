@@ -27,18 +27,27 @@ is_name (b ∷ bs) = not (b == 45) && is_text (b ∷ bs)
 
 -- the mode of this word
 abbrev pub mode_of : List ℕ → Option Mode
-mode_of word = if bytes_eq word (codes "run") then Some Run else (if bytes_eq word (codes "check") then Some Check else None)
+mode_of word =
+    if bytes_eq word (codes "run") then Some Run else (if bytes_eq word (codes "check") then Some Check else None)
 
 -- the command of a mode and two names
 abbrev pub command_with : List ℕ → List ℕ → Mode → Command
-command_with inp rpt mode = record { mode = mode; inp = Some inp; rpt = rpt; threads = None; hot_in = None; hot_out = None }
+command_with inp rpt mode = record {
+  mode = mode;
+  inp = Some inp;
+  rpt = rpt;
+  threads = None;
+  hot_in = None;
+  hot_out = None;
+}
 
 -- the command that words are: three of them, a mode and two names
 unfoldable pub command_of : List (List ℕ) → Option Command
 command_of [] = None
 command_of (mode ∷ []) = None
 command_of (mode ∷ inp ∷ []) = None
-command_of (mode ∷ inp ∷ rpt ∷ []) = if is_name inp && is_name rpt then option_map (command_with inp rpt) (mode_of mode) else None
+command_of (mode ∷ inp ∷ rpt ∷ []) =
+    if is_name inp && is_name rpt then option_map (command_with inp rpt) (mode_of mode) else None
 command_of (mode ∷ inp ∷ rpt ∷ word ∷ words) = None
 
 -- as all commands yet: it reads an input, and reads and writes no hotstart

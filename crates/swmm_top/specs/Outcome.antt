@@ -83,8 +83,14 @@ hotstart_of (Some command) left = read_of command.hot_in left
 
 -- the fact holds of an outcome of the command, where each source that it uses tells its bytes
 abbrev pub Gives : Option Command → Option (List ℕ) → Option (List ℕ) → (Outcome → Type 0) → Type 0
-Gives command inp hot_in P = IfSome (input_of command inp) (λ input. IfSome (hotstart_of command hot_in) (λ hotstart. (given : Outcome) × IsOutcome command input hotstart given × P given))
+Gives command inp hot_in P =
+    IfSome (input_of command inp) (λ input.
+    IfSome (hotstart_of command hot_in) (λ hotstart.
+    (given : Outcome) × IsOutcome command input hotstart given × P given))
 
 -- the fact holds of every outcome of the command
 abbrev pub GivesOnly : Option Command → Option (List ℕ) → Option (List ℕ) → (Outcome → Type 0) → Type 0
-GivesOnly command inp hot_in P = IfSome (input_of command inp) (λ input. IfSome (hotstart_of command hot_in) (λ hotstart. (given : Outcome) → IsOutcome command input hotstart given → P given))
+GivesOnly command inp hot_in P =
+    IfSome (input_of command inp) (λ input.
+    IfSome (hotstart_of command hot_in) (λ hotstart.
+    (given : Outcome) → IsOutcome command input hotstart given → P given))

@@ -43,7 +43,8 @@ fn take_some<S: Source>(
     room: usize,
 ) -> Result<usize, ReadFault>
     requires { 0 < room }
-    ensures taken { IfOk result (λ count. AddsTaken (S.left source.old) (S.left source.new) bytes.old.items bytes.new.items count) }
+    ensures taken { IfOk result (λ count.
+        AddsTaken (S.left source.old) (S.left source.new) bytes.old.items bytes.new.items count) }
     ensures within { IfOk result (λ count. count ≤ room) }
     ensures cause { FailsOnlyAt ReadFault.Failed (S.faults source.old) (S.faults source.new) result }
 {

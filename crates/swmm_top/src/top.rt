@@ -32,11 +32,13 @@ pub fn run_alone_top<S: Source, H: Source, W: Sink, K: Sink>(
     hot_out: &mut K,
 ) -> Result<Status, TopFault>
     // What it gives: the headline.
-    ensures outcome { GivesOutcome (run_only (command_of words.now)) (S.left inp.old) (H.left hot_in.old) (W.held rpt.old) (W.held rpt.new) (K.held hot_out.old) (K.held hot_out.new) result }
+    ensures outcome { GivesOutcome (run_only (command_of words.now))
+        (S.left inp.old) (H.left hot_in.old) (W.held rpt.old) (W.held rpt.new) (K.held hot_out.old) (K.held hot_out.new) result }
     ensures no_command { (result ≡ Ok Status.Usage) ↔ (run_only (command_of words.now) ≡ None) }
 
     // A fault has its cause in the port's count.
-    ensures causes { HasCauses (S.faults inp.old) (S.faults inp.new) (H.faults hot_in.old) (H.faults hot_in.new) (W.faults rpt.old) (W.faults rpt.new) (K.faults hot_out.old) (K.faults hot_out.new) result }
+    ensures causes { HasCauses (S.faults inp.old) (S.faults inp.new) (H.faults hot_in.old) (H.faults hot_in.new)
+        (W.faults rpt.old) (W.faults rpt.new) (K.faults hot_out.old) (K.faults hot_out.new) result }
 
     // What was read, and what a fault leaves.
     ensures read_to_end { ReadsToEnd (S.left inp.old) (S.left inp.new) result }
@@ -63,11 +65,13 @@ pub fn check_top<S: Source, W: Sink>(
     rpt: &mut W,
 ) -> Result<Status, TopFault>
     // What it gives: the headline. There is no hotstart to read or to write.
-    ensures outcome { GivesOutcome (check_only (command_of words.now)) (S.left inp.old) None (W.held rpt.old) (W.held rpt.new) None None result }
+    ensures outcome { GivesOutcome (check_only (command_of words.now))
+        (S.left inp.old) None (W.held rpt.old) (W.held rpt.new) None None result }
     ensures no_command { (result ≡ Ok Status.Usage) ↔ (check_only (command_of words.now) ≡ None) }
 
     // A fault has its cause in the port's count.
-    ensures causes { HasCauses (S.faults inp.old) (S.faults inp.new) no_faults no_faults (W.faults rpt.old) (W.faults rpt.new) no_faults no_faults result }
+    ensures causes { HasCauses (S.faults inp.old) (S.faults inp.new) no_faults no_faults
+        (W.faults rpt.old) (W.faults rpt.new) no_faults no_faults result }
 
     // What was read, and what a fault leaves.
     ensures read_to_end { ReadsToEnd (S.left inp.old) (S.left inp.new) result }
@@ -97,11 +101,13 @@ pub fn swmm_top<R: Threads + Wait + Sync, S: Source, H: Source, W: Sink, K: Sink
     _gate: &G,
 ) -> Result<Status, TopFault>
     // What it gives: the headline.
-    ensures outcome { GivesOutcome (command_of words.now) (S.left inp.old) (H.left hot_in.old) (W.held rpt.old) (W.held rpt.new) (K.held hot_out.old) (K.held hot_out.new) result }
+    ensures outcome { GivesOutcome (command_of words.now)
+        (S.left inp.old) (H.left hot_in.old) (W.held rpt.old) (W.held rpt.new) (K.held hot_out.old) (K.held hot_out.new) result }
     ensures no_command { (result ≡ Ok Status.Usage) ↔ (command_of words.now ≡ None) }
 
     // A fault has its cause in the port's count.
-    ensures causes { HasCauses (S.faults inp.old) (S.faults inp.new) (H.faults hot_in.old) (H.faults hot_in.new) (W.faults rpt.old) (W.faults rpt.new) (K.faults hot_out.old) (K.faults hot_out.new) result }
+    ensures causes { HasCauses (S.faults inp.old) (S.faults inp.new) (H.faults hot_in.old) (H.faults hot_in.new)
+        (W.faults rpt.old) (W.faults rpt.new) (K.faults hot_out.old) (K.faults hot_out.new) result }
 
     // What was read, and what a fault leaves.
     ensures read_to_end { ReadsToEnd (S.left inp.old) (S.left inp.new) result }
@@ -127,11 +133,13 @@ fn run_input<S: Source, W: Sink>(
     inp: &mut S,
     rpt: &mut W,
 ) -> Result<Status, TopFault>
-    ensures outcome { IfSome (S.left inp.old) (λ input. ReportsOutcome mode input (W.held rpt.old) (W.held rpt.new) result) }
+    ensures outcome { IfSome (S.left inp.old) (λ input.
+        ReportsOutcome mode input (W.held rpt.old) (W.held rpt.new) result) }
     ensures no_usage { IfOk result (λ status. status ≢ Status.Usage) }
     ensures read_input { FailsOnlyAt (TopFault.Read Port.Inp) (S.faults inp.old) (S.faults inp.new) result }
     ensures write_report { FailsOnlyAt (TopFault.Write Port.Rpt) (W.faults rpt.old) (W.faults rpt.new) result }
-    ensures faults { OnErr result (IsErrOf result TopFault.OutOfMemory ⊎ (IsErrOf result (TopFault.Read Port.Inp) ⊎ IsErrOf result (TopFault.Write Port.Rpt))) }
+    ensures faults { OnErr result (IsErrOf result TopFault.OutOfMemory
+        ⊎ (IsErrOf result (TopFault.Read Port.Inp) ⊎ IsErrOf result (TopFault.Write Port.Rpt))) }
     ensures read_to_end { ReadsToEnd (S.left inp.old) (S.left inp.new) result }
     ensures unwritten { BeforeWriting result (rpt.new ≡ rpt.old) }
 {
