@@ -25,13 +25,15 @@ use Rattle.inp_objects.specs.Meaning.{IsConduit, MeansObjects}
 use Rattle.inp_objects.specs.Objects.{link_name, is_link_line}
 use Rattle.inp_objects.specs.Records.{node_number, nodes_of, links_of, inflows_of, node_fault, link_fault, inflow_fault, object_fault, object_faults}
 use Rattle.inp_objects.proofs.FaultLemmas.{both_none}
-use Rattle.inp_objects.proofs.MeaningLemmas.{means_one}
+use Rattle.inp_objects.proofs.MeaningLemmas.{means_objects, means_one}
 use Rattle.inp_options.specs.OptionLines.{option_fault}
 use Rattle.inp_options.specs.Options.{units_of, options_of, options_by}
 use Rattle.inp_options.specs.Warnings.{warnings_of}
-use Rattle.inp_tables.specs.SectionLines.{section_fault}
+use Rattle.inp_tables.specs.LinkSections.{placed_sections}
+use Rattle.inp_tables.specs.SectionLines.{section_fault, section_found}
 use Rattle.inp_tables.specs.SectionMeaning.{AreBareLinks, MeansSections}
 use Rattle.inp_tables.proofs.DistinctLemmas.{Named, names_gathered}
+use Rattle.inp_tables.proofs.MeaningLemmas.{sections_mean}
 use Rattle.inp_tables.proofs.UniqueLemmas.{sections_unique}
 use Rattle.inp_reader.specs.LineFaults.{fault_of_line, line_faults}
 use Rattle.inp_reader.specs.Meaning.{Means}
@@ -113,6 +115,26 @@ no_faults lines h =
     let parts = both_none (both_of (node_fault units) (link_fault units lines)) (inflow_fault units lines) [] lines one.1 in
     let named = both_none (node_fault units) (link_fault units lines) [] lines parts.0 in
     record { objects = one.1; nodes = named.0; links = named.1; sections = two.1 }
+
+-- lines without a fault mean a project
+pub means_some : (lines : List Line) → line_faults lines ≡ [] → (project : Project) × Means lines project
+means_some lines none =
+    let units = units_of lines in
+    let clean = no_faults lines none in
+    let objects = means_objects units lines clean.objects in
+    let bare = links_bare units lines clean.links objects.links_are in
+    let project : Project = record {
+      title = title_of lines; warnings = warnings_of lines; options = options_of lines; gages = []; subs = [];
+      nodes = nodes_of units lines; links = placed_sections 0 (gather (section_found units lines) [] lines) (links_of units lines);
+      curves = []; series = []; patterns = []; inflows = inflows_of units lines; dry = []; rules = [];
+    } in (
+      project,
+      record {
+        title_is = refl; warnings_are = refl; options_are = refl; bare_links = links_of units lines; objects_are = objects;
+        links_are = sections_mean units lines (links_of units lines) clean.sections bare;
+        no_gages = refl; no_subs = refl; no_curves = refl; no_series = refl; no_patterns = refl; no_dry = refl; no_rules = refl;
+      },
+    )
 
 pub options_have_units : (lines : List Line) → (options_of lines).units ≡ units_of lines
 unfolding options_of options_by

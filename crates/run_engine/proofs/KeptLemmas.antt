@@ -19,7 +19,7 @@ use Rattle.trial_model.specs.declared.step.StepEnd.{StepEnd}
 use Rattle.run_engine.specs.Kept.{AreFloodsAt, IsKept, IsStateAt, IsTotalAt}
 use Rattle.run_engine.specs.Progress.{IsAt}
 use Rattle.run_engine.specs.Results.{account_at, end_at, floods_at, total_after}
-use Rattle.run_engine.specs.Runnable.{IsRunnable}
+use Rattle.run_engine.specs.Ready.{IsReady}
 use Rattle.run_engine.specs.States.{next_state, opening, project_law, state, step_end}
 use Rattle.run_engine.specs.Times.{length_of}
 use Rattle.run_engine.proofs.OpeningLemmas.{opening_fits, opening_sums}
@@ -35,7 +35,7 @@ total_is project k running at = rw at.steps at at.total.total
 pub kept_at : {project : Project} {h : Hydraulics} {nets before : Nets} {floods : List ℤ} {sums : Figures} {total : Running} {counts : RunCounts} → IsKept project h nets before floods sums total counts
     → IsAt (record { project = project; nets = nets; total = total.total; nodes = sums.nodes; links = sums.links; counts = counts }) counts.steps
 kept_at {project} {h} {nets} {before} {floods} {sums} {total} {counts} kept = record {
-  runnable = kept.runnable;
+  ready = kept.ready;
   within = kept.within;
   nets = kept.now.same;
   total = total_is project counts.steps total kept.totalled;
@@ -66,12 +66,12 @@ pub end_here : (project : Project) (k : ℕ) (ms : ℤ) (old : Nets) (end : Step
 end_here project k ms old end at length ended = ended ∙ rw (length, at) (sym (end_is_at project k))
 
 -- ---- the beginning
-pub opening_at : (project : Project) (nets : Nets) → IsGood (hydraulics_of project) → IsRunnable project → nets ≡ opening project → IsStateAt project 0 nets
-opening_at project nets good runnable is = record {
+pub opening_at : (project : Project) (nets : Nets) → IsGood (hydraulics_of project) → IsReady project → nets ≡ opening project → IsStateAt project 0 nets
+opening_at project nets good ready is = record {
   same = is ∙ sym (state_none project);
-  fits = subst (Fits (project_law project)) (sym is) (opening_fits project good runnable);
+  fits = subst (Fits (project_law project)) (sym is) (opening_fits project good ready);
   sums = subst (SumsOf (project_law project)) (sym is) (opening_sums project);
-  tops = subst (IsBelowTops (hydraulics_of project)) (sym is) (opening_tops project runnable);
+  tops = subst (IsBelowTops (hydraulics_of project)) (sym is) (opening_tops project ready);
 }
 
 zero_at : (count n : ℕ) → number (replicate count (pos 0)) n ≡ pos 0

@@ -31,7 +31,7 @@ use Rattle.trial_model.specs.Trial.{inflow_of, outflow_of, SumsOf}
 use Rattle.trial_model.proofs.FlowLemmas.{flow_sums_most, listed_inflows, listed_outflows, listed_sums}
 use Rattle.trial_model.proofs.RangeLemmas.{listed}
 use Rattle.link_eval.specs.LawGood.{head_of_law as head_in}
-use Rattle.run_engine.specs.Runnable.{IsRunnable}
+use Rattle.run_engine.specs.Ready.{IsReady}
 use Rattle.run_engine.specs.States.{kind_flow, kind_head, level_of, opening, opening_flow, opening_head, opening_node, project_law, stage_of}
 use Rattle.run_engine.proofs.LawLemmas.{law_links, law_nodes, project_law_good}
 use Rattle.run_engine.proofs.RunLemmas.{run_node}
@@ -65,7 +65,7 @@ unfolding lateral_of
 lateral_in project n = record { within = (within_cut _ (le_number tt) (within_minus (10 ^ 12)) (within_number (10 ^ 12))).within }
 
 -- ---- of nodes and links by their numbers
-module _ {project : Project} (r : IsRunnable project) where
+module _ {project : Project} (r : IsReady project) where
   pub stage_in : (n : ℕ) → n < length project.nodes → IsHead (stage_of (node_of project.nodes n).kind)
   stage_in n inside = within_up (stage_within (node_of project.nodes n).kind (run_node project r n inside).kind_in) tt
 
@@ -115,7 +115,7 @@ amounts_in inflow outflow e1 e2 e3 h1 h2 = record {
 
 -- ---- the opening state
 -- it fits the law
-pub opening_fits : (project : Project) → IsGood (hydraulics_of project) → IsRunnable project → Fits (project_law project) (opening project)
+pub opening_fits : (project : Project) → IsGood (hydraulics_of project) → IsReady project → Fits (project_law project) (opening project)
 unfolding opening
 opening_fits project good r =
     let law = project_law project in

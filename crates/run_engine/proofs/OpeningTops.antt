@@ -15,7 +15,7 @@ use Rattle.node_update.specs.declared.node_law.NodeLaw.{NodeLaw}
 use Rattle.project_check.specs.FullHeight.{full_height_of}
 use Rattle.project_check.proofs.LawLemmas.{faultless_good}
 use Rattle.trial_model.proofs.RangeLemmas.{listed}
-use Rattle.run_engine.specs.Runnable.{IsRunnable}
+use Rattle.run_engine.specs.Ready.{IsReady}
 use Rattle.run_engine.specs.States.{kind_head, opening, opening_head, project_law}
 use Rattle.run_engine.proofs.LawLemmas.{law_nodes, node_law_is}
 use Rattle.run_engine.proofs.RunLemmas.{run_node}
@@ -29,14 +29,14 @@ kind_below (Junction surcharge pond) invert y0 full options is room rule = junct
 kind_below (Outfall stage gated) invert y0 full options is room rule = cc
 kind_below (Storage shape) invert y0 full options is room rule = cc
 
-begins_below : (project : Project) → IsRunnable project → (n : ℕ) → n < length project.nodes → (node_law_of project n).rule ≡ JunctionRule
+begins_below : (project : Project) → IsReady project → (n : ℕ) → n < length project.nodes → (node_law_of project n).rule ≡ JunctionRule
     → opening_head (node_of project.nodes n) ≤ℤ (node_law_of project n).top
 unfolding node_law_of
 begins_below project r n inside rule =
     let node = node_of project.nodes n in
     kind_below node.kind node.invert node.y0 (full_height_of project n) project.options (run_node project r n inside).kind_in ((faultless_good project r.faultless).nodes n inside).depth rule
 
-pub opening_tops : (project : Project) → IsRunnable project → IsBelowTops (hydraulics_of project) (opening project)
+pub opening_tops : (project : Project) → IsReady project → IsBelowTops (hydraulics_of project) (opening project)
 unfolding opening
 opening_tops project r = record {
   each = λ n inside junction.

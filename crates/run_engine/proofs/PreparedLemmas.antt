@@ -19,7 +19,7 @@ use Rattle.trial_model.specs.Start.{no_link, no_node}
 use Rattle.trial_model.proofs.RangeLemmas.{listed}
 use Rattle.link_eval.specs.LawGood.{head_of_law as head_in}
 use Rattle.run_engine.specs.Amounts.{AreAmounts, HaveLaterals}
-use Rattle.run_engine.specs.Runnable.{IsRunnable}
+use Rattle.run_engine.specs.Ready.{IsReady}
 use Rattle.run_engine.specs.States.{link_start, node_start, prepared, prepared_link, prepared_node, project_law}
 use Rattle.run_engine.proofs.LawLemmas.{law_nodes, link_in}
 use Rattle.run_engine.proofs.OpeningLemmas.{lateral_in, stage_in}
@@ -85,7 +85,7 @@ prepared_is project dt s {h} {links} {nodes} same e1 e2 =
     cc (links_are, nodes_are)
 
 -- in range
-module _ {project : Project} (good : IsGood (hydraulics_of project)) (r : IsRunnable project) {s : Nets} (fits : Fits (project_law project) s)
+module _ {project : Project} (good : IsGood (hydraulics_of project)) (r : IsReady project) {s : Nets} (fits : Fits (project_law project) s)
     {dt : ℤ} (length_in : IsStepLength dt) where
   link_ready : (l : ℕ) → l < (project_law project).links → LinkFixedInRange (prepared_link project s dt l)
   link_ready l inside =

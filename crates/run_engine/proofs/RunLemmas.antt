@@ -11,7 +11,7 @@ use Rattle.net_types.specs.declared.options.Options.{Options}
 use Rattle.net_types.specs.declared.project.Project.{Project}
 use Rattle.project_check.proofs.LawLemmas.{faultless_good}
 use Rattle.report_writer.specs.DateTexts.{HasCalendarDates}
-use Rattle.run_engine.specs.Runnable.{IsRunnable}
+use Rattle.run_engine.specs.Ready.{IsReady}
 use Rattle.run_engine.specs.Times.{AreRunOptions, duration_of}
 
 at_least : (a b : ℤ) → ¬ (a <ℤ b) → b ≤ℤ a
@@ -23,7 +23,7 @@ even_between a b e f h = omega (arith, ints, e, f, h)
 order : (a b : ℤ) → b ≤ℤ a → pos 0 ≤ℤ (a -ℤ b)
 order a b h = omega (arith, ints, h)
 
-pub run_options : (project : Project) → IsRunnable project → AreRunOptions project.options
+pub run_options : (project : Project) → IsReady project → AreRunOptions project.options
 run_options project r =
     let options = project.options in
     let in_range = r.faultless.sound.options in
@@ -43,8 +43,8 @@ run_options project r =
 dated : {moment : ℤ} → IsMoment moment → IsCalendarMoment moment
 dated {moment} m = (m.from, omega (arith, ints, m.to))
 
-pub run_dates : (project : Project) → IsRunnable project → HasCalendarDates project.options
+pub run_dates : (project : Project) → IsReady project → HasCalendarDates project.options
 run_dates project r = let in_range = r.faultless.sound.options in record { start = dated in_range.start_in; finish = dated in_range.finish_in }
 
-pub run_node : (project : Project) → IsRunnable project → (n : ℕ) → n < length project.nodes → NodeInRange (node_at project.nodes n)
+pub run_node : (project : Project) → IsReady project → (n : ℕ) → n < length project.nodes → NodeInRange (node_at project.nodes n)
 run_node project r n inside = All-get_or NodeInRange project.nodes n no_node inside r.faultless.sound.ranges.nodes

@@ -13,7 +13,7 @@ use Rattle.fixed_num.specs.Lists.{number}
 use Rattle.trial_model.specs.Trial.{SumsOf}
 use Rattle.trial_model.specs.declared.nets.Nets.{Nets}
 use Rattle.run_engine.specs.Results.{account_at, counts_after, floods_at}
-use Rattle.run_engine.specs.Runnable.{IsRunnable}
+use Rattle.run_engine.specs.Ready.{IsReady}
 use Rattle.run_engine.specs.States.{project_law, state}
 use Rattle.run_engine.specs.Times.{moment_of, steps_of}
 
@@ -61,7 +61,7 @@ pub record AreCountsAt (project : Project) (k : ℕ) (counts : RunCounts) : Type
 
 -- all that a run keeps; the state before is only room for one
 pub record IsKept (project : Project) (h : Hydraulics) (nets before : Nets) (floods : List ℤ) (sums : Figures) (total : Running) (counts : RunCounts) : Type 0 where
-  pub runnable : IsRunnable project
+  pub ready : IsReady project
   pub law : h ≡ hydraulics_of project
   pub within : counts.steps ≤ steps_of project.options
   pub now : IsStateAt project counts.steps nets

@@ -1,6 +1,6 @@
 pub mod Times
 pub mod States
-pub mod Runnable
+pub mod Ready
 pub mod Amounts
 pub mod Results
 pub mod Report

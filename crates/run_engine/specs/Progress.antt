@@ -7,7 +7,7 @@ use Rattle.summaries.specs.declared.link_summary.LinkSummary.{LinkSummary}
 use Rattle.summaries.specs.declared.node_summary.NodeSummary.{NodeSummary}
 use Rattle.trial_model.specs.declared.nets.Nets.{Nets}
 use Rattle.run_engine.specs.Results.{total_after, counts_after, node_summaries, link_summaries}
-use Rattle.run_engine.specs.Runnable.{IsRunnable}
+use Rattle.run_engine.specs.Ready.{IsReady}
 use Rattle.run_engine.specs.States.{state}
 use Rattle.run_engine.specs.Times.{steps_of}
 
@@ -22,7 +22,7 @@ pub record Progress : Type 0 where
 
 -- the run of a project that can be run has made its first k steps
 pub record IsAt (run : Progress) (k : ℕ) : Type 0 where
-  pub runnable : IsRunnable run.project
+  pub ready : IsReady run.project
   pub within : k ≤ steps_of run.project.options
   pub nets : run.nets ≡ state run.project k
   pub total : run.total ≡ total_after run.project k

@@ -1,7 +1,7 @@
 // What a run begins with.
 ghost use Rattle.std.specs.Prelude.{◌≡◌, IfOk, replicate, pos};
 ghost use Rattle.run_engine.specs.Kept.{AreFloodsAt, AreSumsOf, IsStateAt};
-ghost use Rattle.run_engine.specs.Runnable.{IsRunnable};
+ghost use Rattle.run_engine.specs.Ready.{IsReady};
 
 use crate::one_step::add_state;
 use net_types::{List, OutOfMemory, Project};
@@ -27,7 +27,7 @@ pub(crate) fn open_sums(
     nets: &Nets,
     floods: &List<i128>,
 ) -> Result<Summaries, OutOfMemory>
-    requires project { IsRunnable project.now }
+    requires project { IsReady project.now }
     requires now { IsStateAt project.now 0 nets.now }
     requires floods { AreFloodsAt project.now 0 floods.now }
     ensures { IfOk result (λ sums. AreSumsOf project.now 1 sums) }

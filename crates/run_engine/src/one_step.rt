@@ -4,7 +4,7 @@ ghost use Rattle.link_eval.specs.Hydraulics.{hydraulics_of};
 ghost use Rattle.trial_model.specs.Fits.{Fits};
 ghost use Rattle.run_engine.specs.Kept.{AreCountsAt, AreFloodsAt, AreSumsOf, IsKept, IsStateAt, IsTotalAt};
 ghost use Rattle.run_engine.specs.Results.{end_at};
-ghost use Rattle.run_engine.specs.Runnable.{IsRunnable};
+ghost use Rattle.run_engine.specs.Ready.{IsReady};
 ghost use Rattle.run_engine.specs.States.{project_law, state};
 ghost use Rattle.run_engine.specs.Times.{length_of, steps_of};
 
@@ -50,7 +50,7 @@ fn step_on(
     before: &mut Nets,
     nets: &mut Nets,
 ) -> StepEnd
-    requires project { IsRunnable project.now }
+    requires project { IsReady project.now }
     requires law { law.now.hydraulics ≡ hydraulics_of project.now }
     requires few { k < 50_000_000 }
     requires room { Fits (project_law project.now) before.old }
@@ -84,7 +84,7 @@ fn add_account(
     floods: &[i128],
     total: &mut RunAccount,
 )
-    requires project { IsRunnable project.now }
+    requires project { IsReady project.now }
     requires law { law.now.hydraulics ≡ hydraulics_of project.now }
     requires few { k < 50_000_000 }
     requires before { IsStateAt project.now k before.now }
@@ -106,7 +106,7 @@ pub(crate) fn add_state(
     floods: &[i128],
     sums: &mut Summaries,
 )
-    requires project { IsRunnable project.now }
+    requires project { IsReady project.now }
     requires few { k ≤ 50_000_000 }
     requires now { IsStateAt project.now k nets.now }
     requires floods { AreFloodsAt project.now k floods.now }

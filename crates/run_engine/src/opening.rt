@@ -7,7 +7,7 @@ ghost use Rattle.net_types.specs.Ranges.{NodeInRange};
 ghost use Rattle.net_types.specs.Records.{node_at as node_of};
 ghost use Rattle.trial_model.specs.Start.{resting};
 ghost use Rattle.fixed_num.specs.Lists.{list_of};
-ghost use Rattle.run_engine.specs.Runnable.{IsRunnable};
+ghost use Rattle.run_engine.specs.Ready.{IsReady};
 ghost use Rattle.run_engine.specs.States.{kind_flow, kind_head, level_of, opening, opening_flow, opening_head, opening_node, stage_of};
 
 use link_eval::HydraulicLaw;
@@ -23,7 +23,7 @@ pub(crate) fn open_state(
     project: &Project,
     law: &HydraulicLaw,
 ) -> Result<Nets, OutOfMemory>
-    requires project { IsRunnable project.now }
+    requires project { IsReady project.now }
     requires law { law.now.hydraulics ≡ hydraulics_of project.now }
     ensures { IfOk result (λ nets. nets ≡ opening project.now) }
 {
@@ -36,7 +36,7 @@ pub(crate) fn open_state(
 
 // Makes a state in which nothing has happened the opening state.
 fn open_nets(project: &Project, law: &HydraulicLaw, nets: &mut Nets)
-    requires project { IsRunnable project.now }
+    requires project { IsReady project.now }
     requires law { law.now.hydraulics ≡ hydraulics_of project.now }
     requires nets { nets.old ≡ resting (length project.now.nodes) (length project.now.links) }
     ensures { nets.new ≡ opening project.now }
@@ -122,7 +122,7 @@ fn kind_flow(kind: &LinkKind) -> i64
 
 // Sets what the nodes have of their own at the beginning.
 fn open_nodes(project: &Project, fixed: &mut [NodeFixed])
-    requires project { IsRunnable project.now }
+    requires project { IsReady project.now }
     requires fixed { length fixed.old ≡ length project.now.nodes }
     ensures { fixed.new ≡ list_of (opening_node project.now) (length project.now.nodes) }
 {
@@ -134,7 +134,7 @@ fn open_nodes(project: &Project, fixed: &mut [NodeFixed])
 
 // What a node has of its own at the beginning: its lateral inflow in cm³/s and its stage in µm.
 fn open_node(project: &Project, n: u32) -> NodeFixed
-    requires project { IsRunnable project.now }
+    requires project { IsReady project.now }
     requires n { n < length project.now.nodes }
     ensures { result ≡ opening_node project.now n }
 {

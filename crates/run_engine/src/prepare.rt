@@ -4,7 +4,7 @@ ghost use Rattle.link_eval.specs.Hydraulics.{hydraulics_of, law_of, mid_area_at}
 ghost use Rattle.fixed_num.specs.Ranges.{IsStepLength, IsFlow};
 ghost use Rattle.trial_model.specs.Fits.{Fits, FlowsFit, HeadsFit, node_fixed_at};
 ghost use Rattle.fixed_num.specs.Lists.{number, list_of};
-ghost use Rattle.run_engine.specs.Runnable.{IsRunnable};
+ghost use Rattle.run_engine.specs.Ready.{IsReady};
 ghost use Rattle.run_engine.specs.Amounts.{AreAmounts, HaveLaterals};
 ghost use Rattle.run_engine.specs.States.{link_start, node_start, prepared, project_law};
 
@@ -18,7 +18,7 @@ use trial_model::Nets;
 // Makes a state ready for the trials of a step of this length in ms: the flows, heads and net inflows of the state stay
 // the same over the trials, beside the lateral inflows and stages at the step's end.
 pub(crate) fn prepare(project: &Project, law: &HydraulicLaw, dt: i64, nets: &mut Nets)
-    requires project { IsRunnable project.now }
+    requires project { IsReady project.now }
     requires law { law.now.hydraulics ≡ hydraulics_of project.now }
     requires fits { Fits (project_law project.now) nets.old }
     requires dt { IsStepLength dt }
@@ -87,7 +87,7 @@ fn prepare_nodes(
     outflows: &[i64],
     nodes: &mut [NodeFixed],
 )
-    requires project { IsRunnable project.now }
+    requires project { IsReady project.now }
     requires heads { length heads.now ≡ length project.now.nodes }
     requires inflows { AreAmounts (length project.now.nodes) inflows.now }
     requires outflows { AreAmounts (length project.now.nodes) outflows.now }
@@ -110,7 +110,7 @@ fn node_start(
     outflows: &[i64],
     nodes: &[NodeFixed],
 ) -> NodeFixed
-    requires project { IsRunnable project.now }
+    requires project { IsReady project.now }
     requires n { n < length project.now.nodes }
     requires heads { length heads.now ≡ length project.now.nodes }
     requires inflows { AreAmounts (length project.now.nodes) inflows.now }

@@ -3,9 +3,10 @@ ghost use Rattle.std.specs.Prelude.{◌≡◌, ◌+◌, ◌-◌, ◌<◌, ◌≤
 ghost use Rattle.continuity.specs.Account.{Balances};
 ghost use Rattle.fault_ports.specs.Causes.{HasCause};
 ghost use Rattle.fault_ports.specs.Output.{Puts};
+ghost use Rattle.project_check.specs.Faultless.{IsFaultless};
 ghost use Rattle.run_engine.specs.Progress.{IsAt};
 ghost use Rattle.run_engine.specs.Report.{report_of};
-ghost use Rattle.run_engine.specs.Runnable.{IsRunnable};
+ghost use Rattle.run_engine.specs.Ready.{IsBuilt};
 ghost use Rattle.run_engine.specs.Times.{steps_of};
 
 use crate::begin::{open_sums, zeros};
@@ -60,7 +61,8 @@ impl Model for Run {
 ///
 /// Source: this project's profile.
 pub fn open_run(alloc: Global, project: Project) -> Result<Run, OutOfMemory>
-    requires { IsRunnable project }
+    requires faultless { IsFaultless project }
+    requires built { IsBuilt project }
     ensures { IfOk result (λ run. (run.project ≡ project) × IsAt run 0) }
 {
     let law = HydraulicLaw::build(alloc, &project)?;

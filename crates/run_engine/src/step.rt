@@ -6,7 +6,7 @@ ghost use Rattle.fixed_num.specs.Ranges.{IsStepLength};
 ghost use Rattle.trial_model.specs.Fits.{Fits};
 ghost use Rattle.trial_model.specs.Trial.{SumsOf};
 ghost use Rattle.run_engine.specs.Kept.{HaveSameCounts};
-ghost use Rattle.run_engine.specs.Runnable.{IsRunnable};
+ghost use Rattle.run_engine.specs.Ready.{IsReady};
 ghost use Rattle.run_engine.specs.States.{next_state, project_law, step_end};
 
 use crate::prepare::prepare;
@@ -22,7 +22,7 @@ pub(crate) fn make_step(
     before: &mut Nets,
     nets: &mut Nets,
 ) -> StepEnd
-    requires project { IsRunnable project.now }
+    requires project { IsReady project.now }
     requires law { law.now.hydraulics ≡ hydraulics_of project.now }
     requires dt { IsStepLength dt }
     requires room { Fits (project_law project.now) before.old }

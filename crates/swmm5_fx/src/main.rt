@@ -1,74 +1,64 @@
 //! `swmm5_fx`: reads its words, opens the files that they name, does the command and ends with its status: 0 done,
-//! 1 refused, 2 usage, 3 read fault, 4 write fault, 5 out of memory. For the statuses from 2 on it prints one line.
-//! What a command gives is the contract of `swmm_top::swmm_top`.
+//! 1 refused, 2 usage, 3 read fault, 4 write fault, 5 out of memory (`specs/Statuses.antt`). For the statuses from 2 on
+//! it prints one line (`specs/Lines.antt`). Its ports stand over the files that its words name (`specs/Ports.antt`),
+//! and what a command gives over them is the contract of `swmm_top::swmm_top`.
 #![tactic(auto)]
 
-use fault_ports::{FileSink, FileSource, OpenGate};
+mod line;
+mod ports;
+
+use crate::line::{line_of, status_of};
+use crate::ports::{command_over, ports_over};
 use net_types::{List, OutOfMemory, Text};
 use std::env;
-use std::io::ErrorKind;
+use std::io::{ErrorKind, Result as IoResult};
 use std::process::ExitCode;
 use std::rt::Files;
 use std::sync::Wait;
 use std::thread::Threads;
-use swmm_top::{Port, Status, TopFault, file_names, swmm_top};
-
-const USAGE: &str =
-    "usage: swmm5_fx run INP RPT [--threads N] [--hot-in F] [--hot-out F] | check INP RPT | demo N RPT [--threads N]";
+use swmm_top::{FileNames, Port, Status, TopFault, file_names};
 
 fn main(rt: HostRuntime) -> ExitCode {
-    ExitCode::from(ended(&rt))
-}
-
-// Does the command and prints the line of its end. The answer is the status of the program.
-fn ended<R: AllocGlobal + env::Env + Files + Print + Threads + Wait + Sync>(rt: &R) -> u8 {
-    let (status, printed) = match done(rt) {
-        Ok(Status::Done) => (0, Ok(())),
-        Ok(Status::Refused) => (1, Ok(())),
-        Ok(Status::Usage) => (2, println!(rt; "{USAGE}")),
-        Err(fault) => (fault_status(fault), println!(rt; "{fault}")),
+    let answer = done(&rt);
+    let ended = match told(&rt, answer) {
+        Ok(()) => answer,
+        Err(_) => Err(TopFault::Write(Port::Rpt)),
     };
-    match printed {
-        Ok(()) => status,
-        Err(_) => fault_status(TopFault::Write(Port::Rpt)),
+    ExitCode::from(status_of(ended))
+}
+
+// Prints the line of an answer, if it has one.
+fn told<R: Print>(rt: &R, answer: Result<Status, TopFault>) -> IoResult<()> {
+    match line_of(answer) {
+        Some(line) => println!(rt; "{line}"),
+        None => Ok(()),
     }
 }
 
-// The status of the program after a fault.
-fn fault_status(fault: TopFault) -> u8 {
-    match fault {
-        TopFault::Read(_) => 3,
-        TopFault::Write(_) => 4,
-        TopFault::OutOfMemory => 5,
-    }
-}
-
-// Does the command over the files that its words name.
+// Does the command that the program's words are.
 fn done<R: AllocGlobal + env::Env + Files + Threads + Wait + Sync>(
     rt: &R,
 ) -> Result<Status, TopFault> {
     let Some(words) = words(rt)? else {
         return Ok(Status::Usage);
     };
-    let names = match file_names(rt.alloc(), &words) {
-        Ok(Some(names)) => names,
-        Ok(None) => return Ok(Status::Usage),
-        Err(OutOfMemory) => return Err(TopFault::OutOfMemory),
-    };
-    let mut inp = FileSource::new(rt, name(rt, names.inp)?);
-    let mut hot_in = FileSource::new(rt, name(rt, names.hot_in)?);
-    let mut rpt = FileSink::new(rt, names.rpt);
-    let mut hot_out = FileSink::new(rt, name(rt, names.hot_out)?);
-    swmm_top(
-        rt,
-        rt.alloc(),
-        &words,
-        &mut inp,
-        &mut hot_in,
-        &mut rpt,
-        &mut hot_out,
-        &OpenGate,
-    )
+    match file_names(rt.alloc(), &words) {
+        Ok(Some(names)) => done_over(rt, &words, names),
+        Ok(None) => Ok(Status::Usage),
+        Err(OutOfMemory) => Err(TopFault::OutOfMemory),
+    }
+}
+
+// Does the command of these words over the files of these names.
+fn done_over<R: AllocGlobal + Files + Threads + Wait + Sync>(
+    rt: &R,
+    words: &List<Text>,
+    names: FileNames,
+) -> Result<Status, TopFault> {
+    match ports_over(rt, names) {
+        Ok(mut ports) => command_over(rt, words, &mut ports),
+        Err(OutOfMemory) => Err(TopFault::OutOfMemory),
+    }
 }
 
 // The words after the program's name. None where one of them is no text.
@@ -86,14 +76,6 @@ fn words<R: AllocGlobal + env::Env>(rt: &R) -> Result<Option<List<Text>>, TopFau
         }
     }
     Ok(Some(words))
-}
-
-// The name of a file, which is empty for a port that has none and is never called.
-fn name<R: AllocGlobal>(rt: &R, name: Option<Text>) -> Result<Text, TopFault> {
-    match name {
-        Some(name) => Ok(name),
-        None => text(rt, b""),
-    }
 }
 
 // A copy of the bytes.

@@ -1,4 +1,4 @@
+mod BuiltLemmas
 mod InputLemmas
 mod OutcomeLemmas
 mod ReadLemmas
-mod RunnableLemmas

@@ -1,5 +1,5 @@
 -- The outcome of an input, and of the front of it that is read.
-use Rattle.std.proofs.Common.{◌≡◌, ◌≢◌, ℕ, ◌+◌, ◌≤◌, ◌<◌, Bool, true, false, nat_lt, List, [], ◌∷◌, length, take, Option, None, Some, IfSome, IfOk, Result, Ok, Err, refl, sym, ap, ◌∙◌, subst, inl, inr, arith}
+use Rattle.std.proofs.Common.{◌≡◌, ◌≢◌, ℕ, ◌+◌, ◌≤◌, ◌<◌, Bool, true, false, nat_lt, List, [], ◌∷◌, length, take, Option, None, Some, IfSome, IsSome, IfOk, Result, Ok, Err, if◌then◌else◌, refl, sym, ap, ◌∙◌, subst, inl, inr, arith}
 use Rattle.std.proofs.lemmas.List.{length-take, take_all}
 use Rattle.std.proofs.lemmas.Bool.{cases_lt, lt-ltb}
 use Rattle.std.proofs.lemmas.Bool.Decides.{nat_tests}
@@ -14,14 +14,16 @@ use Rattle.inp_lines.specs.Faults.{cut}
 use Rattle.inp_lines.specs.Lines.{lines_of}
 use Rattle.inp_reader.specs.LineFaults.{line_faults}
 use Rattle.inp_reader.specs.Meaning.{Means}
-use Rattle.inp_reader.proofs.MeaningLemmas.{means_unique}
+use Rattle.inp_reader.proofs.MeaningLemmas.{means_some, means_unique}
 use Rattle.fault_ports.specs.Output.{Puts, AppendsPrefix}
 use Rattle.project_check.specs.ProjectFaults.{project_faults}
-use Rattle.report_writer.specs.FaultReports.{line_faults_report, input_too_long_report}
+use Rattle.report_writer.specs.FaultReports.{line_faults_report, project_faults_report, input_too_long_report}
+use Rattle.run_engine.specs.Report.{report_of}
 use Rattle.swmm_top.specs.Answers.{HasGiven, GivesOutcome, ReportsOutcome}
-use Rattle.swmm_top.specs.CommandWords.{Command, run, check, run_only, check_only}
+use Rattle.swmm_top.specs.Built.{is_built}
+use Rattle.swmm_top.specs.CommandWords.{Command, ReadsInputAlone, by_mode, run_only, check_only}
 use Rattle.swmm_top.specs.Input.{TakesFront, input_limit}
-use Rattle.swmm_top.specs.Outcome.{Outcome, IsOutcome, IsInputOutcome, IsLinesOutcome, usage, refused, answer_of, answer_unless, project_outcome}
+use Rattle.swmm_top.specs.Outcome.{Outcome, IsOutcome, IsInputOutcome, IsLinesOutcome, usage, refused, done, not_built, answer_of, answer_unless, project_outcome, read_of, input_of, hotstart_of}
 use Rattle.swmm_top.specs.declared.mode.Mode.{Mode}
 use Rattle.swmm_top.specs.declared.mode.Mode.TheVariants.{Run, Check}
 use Rattle.swmm_top.specs.declared.status.Status.{Status}
@@ -53,8 +55,13 @@ lines_one mode lines a b p q =
     (λ some. p.0 some ∙ sym (q.0 some))
 
 -- no mode writes a hotstart
+run_no_hotstart : (whole : Bool) (project : Project)
+    → (if whole then done (report_of project) else refused (project_faults_report not_built)).hotstart ≡ []
+run_no_hotstart true project = refl
+run_no_hotstart false project = refl
+
 answer_no_hotstart : (mode : Mode) (project : Project) → (answer_of mode project).hotstart ≡ []
-answer_no_hotstart Run project = refl
+answer_no_hotstart Run project = run_no_hotstart (is_built project) project
 answer_no_hotstart Check project = refl
 
 unless_no_hotstart : (faults : List ProjectFault) (answer : Outcome) → answer.hotstart ≡ [] → (answer_unless faults answer).hotstart ≡ []
@@ -175,23 +182,61 @@ failed_of : (mode : Mode) (left rpt₀ rpt : Option (List ℕ)) (fault : TopFaul
     → IfSome left (λ input. (given : Outcome) → IsInputOutcome mode input given → AppendsPrefix rpt₀ rpt given.report)
 failed_of mode left rpt₀ rpt fault said = lift_some left _ _ (λ input told. told.failed) said
 
--- a run gives the outcome of its input
-pub run_gives : (left hot_in rpt₀ rpt hot : Option (List ℕ)) (result : Result Status TopFault) (command : Option Command) (inp_name rpt_name : List ℕ) → Some (run inp_name rpt_name) ≡ command
-    → IfSome left (λ input. ReportsOutcome Run input rpt₀ rpt result) → GivesOutcome (run_only command) left hot_in rpt₀ rpt hot hot result
+-- ---- the command of words: a mode, an input, and no hotstart
+
+read_named : (name left : Option (List ℕ)) → IsSome name → read_of name left ≡ left
+read_named None left some = let no : ⊥ = cc in absurd no
+read_named (Some name) left some = refl
+
+read_nothing : (name left : Option (List ℕ)) → name ≡ None → read_of name left ≡ Some []
+read_nothing name left none = ap (λ n. read_of n left) none
+
+-- what is said of the whole of what an input's source tells is said of what the command reads
+in_command : (command : Command) (left hot_in : Option (List ℕ)) (P : List ℕ → Type 0) → ReadsInputAlone command → IfSome left P
+    → IfSome (input_of (Some command) left) (λ input. IfSome (hotstart_of (Some command) hot_in) (λ hotstart. P input))
+in_command command left hot_in P uses said =
+    subst (λ l. IfSome l (λ input. IfSome (read_of command.hot_in hot_in) (λ hotstart. P input))) (sym (read_named command.inp left uses.input))
+    (subst (λ h. IfSome left (λ input. IfSome h (λ hotstart. P input))) (sym (read_nothing command.hot_in hot_in uses.no_hotstart_in)) said)
+
+of_command : (command : Command) (left hot_in : Option (List ℕ)) (P : List ℕ → Type 0) → ReadsInputAlone command
+    → IfSome (input_of (Some command) left) (λ input. IfSome (hotstart_of (Some command) hot_in) (λ hotstart. P input)) → IfSome left P
+of_command command left hot_in P uses said =
+    subst (λ h. IfSome left (λ input. IfSome h (λ hotstart. P input))) (read_nothing command.hot_in hot_in uses.no_hotstart_in)
+    (subst (λ l. IfSome l (λ input. IfSome (read_of command.hot_in hot_in) (λ hotstart. P input))) (read_named command.inp left uses.input) said)
+
+-- a command gives the outcome of its input
+gives : (mode : Mode) (command : Command) (left hot_in rpt₀ rpt hot : Option (List ℕ)) (result : Result Status TopFault) → command.mode ≡ mode → ReadsInputAlone command
+    → IfSome left (λ input. ReportsOutcome mode input rpt₀ rpt result) → GivesOutcome (Some command) left hot_in rpt₀ rpt hot hot result
 unfolding IsOutcome
-run_gives left hot_in rpt₀ rpt hot (Ok status) command inp_name rpt_name is said =
-    subst (λ c. GivesOutcome (run_only c) left hot_in rpt₀ rpt hot hot (Ok status)) is (record { ended = ended_of Run left rpt₀ rpt hot status said; failed = tt })
-run_gives left hot_in rpt₀ rpt hot (Err fault) command inp_name rpt_name is said =
-    subst (λ c. GivesOutcome (run_only c) left hot_in rpt₀ rpt hot hot (Err fault)) is (record { ended = tt; failed = failed_of Run left rpt₀ rpt fault said })
+gives mode command left hot_in rpt₀ rpt hot (Ok status) mode_is uses said =
+    let E : List ℕ → Type 0 = λ input. (given : Outcome) × IsInputOutcome command.mode input given × HasGiven rpt₀ rpt hot hot status given in
+    let e = subst (λ m. IfSome left (λ input. (given : Outcome) × IsInputOutcome m input given × HasGiven rpt₀ rpt hot hot status given)) (sym mode_is) (ended_of mode left rpt₀ rpt hot status said) in
+    record { ended = in_command command left hot_in E uses e; failed = tt }
+gives mode command left hot_in rpt₀ rpt hot (Err fault) mode_is uses said =
+    let F : List ℕ → Type 0 = λ input. (given : Outcome) → IsInputOutcome command.mode input given → AppendsPrefix rpt₀ rpt given.report in
+    let f = subst (λ m. IfSome left (λ input. (given : Outcome) → IsInputOutcome m input given → AppendsPrefix rpt₀ rpt given.report)) (sym mode_is) (failed_of mode left rpt₀ rpt fault said) in
+    record { ended = tt; failed = in_command command left hot_in F uses f }
+
+-- a run gives the outcome of its input
+pub run_gives : (left hot_in rpt₀ rpt hot : Option (List ℕ)) (result : Result Status TopFault) (words : Option Command) (command : Command) → Some command ≡ words → command.mode ≡ Run → ReadsInputAlone command
+    → IfSome left (λ input. ReportsOutcome Run input rpt₀ rpt result) → GivesOutcome (run_only words) left hot_in rpt₀ rpt hot hot result
+run_gives left hot_in rpt₀ rpt hot result words command is mode_is uses said =
+    let only : Some command ≡ run_only words = sym (ap (by_mode (Some command) None) mode_is) ∙ ap run_only is in
+    subst (λ c. GivesOutcome c left hot_in rpt₀ rpt hot hot result) only (gives Run command left hot_in rpt₀ rpt hot result mode_is uses said)
 
 -- a check gives the outcome of its input
-pub check_gives : (left hot_in rpt₀ rpt hot : Option (List ℕ)) (result : Result Status TopFault) (command : Option Command) (inp_name rpt_name : List ℕ) → Some (check inp_name rpt_name) ≡ command
-    → IfSome left (λ input. ReportsOutcome Check input rpt₀ rpt result) → GivesOutcome (check_only command) left hot_in rpt₀ rpt hot hot result
-unfolding IsOutcome
-check_gives left hot_in rpt₀ rpt hot (Ok status) command inp_name rpt_name is said =
-    subst (λ c. GivesOutcome (check_only c) left hot_in rpt₀ rpt hot hot (Ok status)) is (record { ended = ended_of Check left rpt₀ rpt hot status said; failed = tt })
-check_gives left hot_in rpt₀ rpt hot (Err fault) command inp_name rpt_name is said =
-    subst (λ c. GivesOutcome (check_only c) left hot_in rpt₀ rpt hot hot (Err fault)) is (record { ended = tt; failed = failed_of Check left rpt₀ rpt fault said })
+pub check_gives : (left hot_in rpt₀ rpt hot : Option (List ℕ)) (result : Result Status TopFault) (words : Option Command) (command : Command) → Some command ≡ words → command.mode ≡ Check → ReadsInputAlone command
+    → IfSome left (λ input. ReportsOutcome Check input rpt₀ rpt result) → GivesOutcome (check_only words) left hot_in rpt₀ rpt hot hot result
+check_gives left hot_in rpt₀ rpt hot result words command is mode_is uses said =
+    let only : Some command ≡ check_only words = sym (ap (by_mode None (Some command)) mode_is) ∙ ap check_only is in
+    subst (λ c. GivesOutcome c left hot_in rpt₀ rpt hot hot result) only (gives Check command left hot_in rpt₀ rpt hot result mode_is uses said)
+
+-- words of the other mode are no command here
+pub not_run : (words : Option Command) (command : Command) → Some command ≡ words → command.mode ≡ Check → run_only words ≡ None
+not_run words command is mode = sym (ap run_only is) ∙ ap (by_mode (Some command) None) mode
+
+pub not_check : (words : Option Command) (command : Command) → Some command ≡ words → command.mode ≡ Run → check_only words ≡ None
+not_check words command is mode = sym (ap check_only is) ∙ ap (by_mode None (Some command)) mode
 
 -- words that are no command give `Usage` and nothing else
 pub usage_gives : (command : Option Command) (left hot_in rpt hot : Option (List ℕ)) → command ≡ None → GivesOutcome command left hot_in rpt rpt hot hot (Ok Usage)
@@ -200,25 +245,51 @@ usage_gives command left hot_in rpt hot is =
     subst (λ c. GivesOutcome c left hot_in rpt rpt hot hot (Ok Usage)) (sym is)
     (record { ended = (usage, refl, record { status_is = refl; report = Appends-nil rpt; hotstart = Appends-nil hot }); failed = tt })
 
--- what a check gives on its own it gives when it was handed on
-handed_ended : (mode : Mode) (left rpt₀ rpt hot : Option (List ℕ)) (status : Status) → IfSome left (λ input. (given : Outcome) × IsInputOutcome mode input given × HasGiven rpt₀ rpt None None status given)
+-- what a check gives on its own, without ports of hotstarts, it gives when it was handed on
+handed_given : (mode : Mode) (left rpt₀ rpt hot : Option (List ℕ)) (status : Status) → IfSome left (λ input. (given : Outcome) × IsInputOutcome mode input given × HasGiven rpt₀ rpt None None status given)
     → IfSome left (λ input. (given : Outcome) × IsInputOutcome mode input given × HasGiven rpt₀ rpt hot hot status given)
-handed_ended mode left rpt₀ rpt hot status said =
+handed_given mode left rpt₀ rpt hot status said =
     lift_some left _ _ (λ input e. (e.0, e.1, record { status_is = e.2.status_is; report = e.2.report; hotstart = kept_hotstart hot _ (no_hotstart mode input e.0 e.1) })) said
 
-pub check_handed : (command : Option Command) (inp_name rpt_name : List ℕ) (left hot_in rpt₀ rpt hot : Option (List ℕ)) (result : Result Status TopFault) → Some (check inp_name rpt_name) ≡ command
-    → GivesOutcome (check_only command) left None rpt₀ rpt None None result → GivesOutcome command left hot_in rpt₀ rpt hot hot result
+handed : (command : Command) (left hot_in rpt₀ rpt hot : Option (List ℕ)) (result : Result Status TopFault) → ReadsInputAlone command
+    → GivesOutcome (Some command) left None rpt₀ rpt None None result → GivesOutcome (Some command) left hot_in rpt₀ rpt hot hot result
 unfolding IsOutcome
-check_handed command inp_name rpt_name left hot_in rpt₀ rpt hot (Ok status) is =
-    subst (λ c. GivesOutcome (check_only c) left None rpt₀ rpt None None (Ok status) → GivesOutcome c left hot_in rpt₀ rpt hot hot (Ok status)) is
-    (λ said. record { ended = handed_ended Check left rpt₀ rpt hot status said.ended; failed = tt })
-check_handed command inp_name rpt_name left hot_in rpt₀ rpt hot (Err fault) is =
-    subst (λ c. GivesOutcome (check_only c) left None rpt₀ rpt None None (Err fault) → GivesOutcome c left hot_in rpt₀ rpt hot hot (Err fault)) is
-    (λ said. record { ended = tt; failed = said.failed })
+handed command left hot_in rpt₀ rpt hot (Ok status) uses said =
+    let D : List ℕ → Type 0 = λ input. (given : Outcome) × IsInputOutcome command.mode input given × HasGiven rpt₀ rpt None None status given in
+    let E : List ℕ → Type 0 = λ input. (given : Outcome) × IsInputOutcome command.mode input given × HasGiven rpt₀ rpt hot hot status given in
+    record { ended = in_command command left hot_in E uses (handed_given command.mode left rpt₀ rpt hot status (of_command command left None D uses said.ended)); failed = tt }
+handed command left hot_in rpt₀ rpt hot (Err fault) uses said =
+    let F : List ℕ → Type 0 = λ input. (given : Outcome) → IsInputOutcome command.mode input given → AppendsPrefix rpt₀ rpt given.report in
+    record { ended = tt; failed = in_command command left hot_in F uses (of_command command left None F uses said.failed) }
+
+pub check_handed : (words : Option Command) (command : Command) (left hot_in rpt₀ rpt hot : Option (List ℕ)) (result : Result Status TopFault) → Some command ≡ words → command.mode ≡ Check → ReadsInputAlone command
+    → GivesOutcome (check_only words) left None rpt₀ rpt None None result → GivesOutcome words left hot_in rpt₀ rpt hot hot result
+check_handed words command left hot_in rpt₀ rpt hot result is mode_is uses said =
+    let only : check_only words ≡ Some command = sym (ap check_only is) ∙ ap (by_mode None (Some command)) mode_is in
+    subst (λ c. GivesOutcome c left hot_in rpt₀ rpt hot hot result) is
+    (handed command left hot_in rpt₀ rpt hot result uses (subst (λ c. GivesOutcome c left None rpt₀ rpt None None result) only said))
 
 -- the same words and bytes have one outcome
 pub outcome_one : (command : Option Command) (input hotstart : List ℕ) (a b : Outcome) → IsOutcome command input hotstart a → IsOutcome command input hotstart b → a ≡ b
 unfolding IsOutcome
 outcome_one None input hotstart a b p q = p ∙ sym q
-outcome_one (Some (run inp_name rpt_name)) input hotstart a b p q = input_one Run input a b p q
-outcome_one (Some (check inp_name rpt_name)) input hotstart a b p q = input_one Check input a b p q
+outcome_one (Some command) input hotstart a b p q = input_one command.mode input a b p q
+
+-- the same words and bytes have an outcome
+lines_some : (mode : Mode) (lines : List Line) → (given : Outcome) × IsLinesOutcome mode lines given
+lines_some mode lines =
+    bare_or (line_faults lines) _
+    (λ bare. let meant = means_some lines bare in (project_outcome mode meant.0, lines_meant mode lines meant.0 bare meant.1))
+    (λ some. (refused (line_faults_report (cut (line_faults lines))), lines_refused mode lines (cut (line_faults lines)) some refl))
+
+input_some : (mode : Mode) (input : List ℕ) → (given : Outcome) × IsInputOutcome mode input given
+input_some mode input =
+    elim (cases_lt input_limit (length input)) [
+      | inl more ↦ (refused input_too_long_report, input_long mode input more)
+      | inr few ↦ let given = lines_some mode (lines_of input) in (given.0, input_short mode input given.0 few given.1)
+    ]
+
+pub outcome_some : (command : Option Command) (input hotstart : List ℕ) → (given : Outcome) × IsOutcome command input hotstart given
+unfolding IsOutcome
+outcome_some None input hotstart = (usage, refl)
+outcome_some (Some command) input hotstart = input_some command.mode input

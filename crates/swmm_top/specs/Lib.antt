@@ -1,7 +1,9 @@
 pub mod Answers
+pub mod Built
 pub mod CommandWords
 pub mod Input
 pub mod Names
 pub mod Outcome
 pub mod Plain
+pub mod Readable
 pub mod TopFaults

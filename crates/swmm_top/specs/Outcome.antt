@@ -1,6 +1,8 @@
 -- What a command gives: a status, a report and a hotstart, by the words and the bytes alone.
-use Rattle.std.specs.Prelude.{◌≡◌, ◌≢◌, ℕ, List, [], ◌∷◌, length, nat_lt, Option, None, Some, IfSome}
+use Rattle.std.specs.Prelude.{◌≡◌, ◌≢◌, ℕ, List, [], ◌∷◌, length, nat_lt, Option, None, Some, IfSome, if◌then◌else◌}
 use Rattle.std.specs.Bool.{MatchBool}
+use Rattle.net_types.specs.Faults.{number_of}
+use Rattle.net_types.specs.declared.faults.FaultKind.TheVariants.{NotInProfile}
 use Rattle.net_types.specs.declared.faults.ProjectFault.{ProjectFault}
 use Rattle.net_types.specs.declared.project.Project.{Project}
 use Rattle.inp_lines.specs.declared.line.Line.{Line}
@@ -12,7 +14,8 @@ use Rattle.project_check.specs.ProjectFaults.{project_faults}
 use Rattle.report_writer.specs.AcceptedReport.{accepted_report}
 use Rattle.report_writer.specs.FaultReports.{line_faults_report, project_faults_report, input_too_long_report}
 use Rattle.run_engine.specs.Report.{report_of}
-use Rattle.swmm_top.specs.CommandWords.{Command, run, check}
+use Rattle.swmm_top.specs.Built.{is_built}
+use Rattle.swmm_top.specs.CommandWords.{Command}
 use Rattle.swmm_top.specs.Input.{input_limit}
 use Rattle.swmm_top.specs.declared.mode.Mode.{Mode}
 use Rattle.swmm_top.specs.declared.mode.Mode.TheVariants.{Run, Check}
@@ -37,10 +40,14 @@ usage = record { status = Usage; report = []; hotstart = [] }
 abbrev pub done : List ℕ → Outcome
 done report = record { status = Done; report = report; hotstart = [] }
 
+-- a run of a project of which not all is built is refused: it isn't in this profile
+abbrev pub not_built : List ProjectFault
+not_built = record { number = number_of NotInProfile; name = [] } ∷ []
+
 -- what a mode gives for a project without a fault: a check says how large it is, a run reports what it came to
 abbrev pub answer_of : Mode → Project → Outcome
 answer_of Check project = done (accepted_report project)
-answer_of Run project = done (report_of project)
+answer_of Run project = if is_built project then done (report_of project) else refused (project_faults_report not_built)
 
 -- faults are what a project is refused with; without one there is the answer
 abbrev pub answer_unless : List ProjectFault → Outcome → Outcome
@@ -64,22 +71,33 @@ IsInputOutcome mode input given = MatchBool (nat_lt input_limit (length input)) 
 -- what a command gives for an input and a hotstart
 unfoldable pub IsOutcome : Option Command → List ℕ → List ℕ → Outcome → Type 0
 IsOutcome None input hotstart given = given ≡ usage
-IsOutcome (Some (run inp rpt)) input hotstart given = IsInputOutcome Run input given
-IsOutcome (Some (check inp rpt)) input hotstart given = IsInputOutcome Check input given
+IsOutcome (Some command) input hotstart given = IsInputOutcome command.mode input given
+
+-- what a command reads of a source: nothing where it names no file
+abbrev pub read_of : Option (List ℕ) → Option (List ℕ) → Option (List ℕ)
+read_of None left = Some []
+read_of (Some name) left = left
 
 -- what a command reads of its input's source: one that is no command reads nothing
 abbrev pub input_of : Option Command → Option (List ℕ) → Option (List ℕ)
 input_of None left = Some []
-input_of (Some command) left = left
+input_of (Some command) left = read_of command.inp left
 
--- what a command reads of its hotstart's source: no command reads one yet
+-- what a command reads of its hotstart's source
 abbrev pub hotstart_of : Option Command → Option (List ℕ) → Option (List ℕ)
-hotstart_of command left = Some []
+hotstart_of None left = Some []
+hotstart_of (Some command) left = read_of command.hot_in left
 
 -- the fact holds of an outcome of the command, where each source that it uses tells its bytes
 abbrev pub Gives : Option Command → Option (List ℕ) → Option (List ℕ) → (Outcome → Type 0) → Type 0
-Gives command inp hot_in P = IfSome (input_of command inp) (λ input. IfSome (hotstart_of command hot_in) (λ hotstart. (given : Outcome) × IsOutcome command input hotstart given × P given))
+Gives command inp hot_in P =
+    IfSome (input_of command inp) (λ input.
+    IfSome (hotstart_of command hot_in) (λ hotstart.
+    (given : Outcome) × IsOutcome command input hotstart given × P given))
 
 -- the fact holds of every outcome of the command
 abbrev pub GivesOnly : Option Command → Option (List ℕ) → Option (List ℕ) → (Outcome → Type 0) → Type 0
-GivesOnly command inp hot_in P = IfSome (input_of command inp) (λ input. IfSome (hotstart_of command hot_in) (λ hotstart. (given : Outcome) → IsOutcome command input hotstart given → P given))
+GivesOnly command inp hot_in P =
+    IfSome (input_of command inp) (λ input.
+    IfSome (hotstart_of command hot_in) (λ hotstart.
+    (given : Outcome) → IsOutcome command input hotstart given → P given))

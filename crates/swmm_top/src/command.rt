@@ -1,23 +1,30 @@
 // The words of a command.
-ghost use Rattle.std.specs.Prelude.{◌≡◌, List as Sequence, ℕ, Option, Some, None, map};
+ghost use Rattle.std.specs.Prelude.{◌≡◌, List as Sequence, ℕ, Option, Some, None, map, IfSome};
 ghost use Rattle.std.specs.Option.{option_map};
-ghost use Rattle.swmm_top.specs.CommandWords.{command_of, command_with, is_name, is_text};
+ghost use Rattle.swmm_top.specs.CommandWords.{ReadsInputAlone, command_of, is_name, is_text, mode_of};
 ghost use Rattle.swmm_top.specs.Plain.{plain};
 
+use crate::mode::Mode;
 use net_types::{List, Text};
 use std::str;
 
-/// A command, with the names that its words give.
+/// A command: what it does, the names that its words give, and how many workers it asks for. All words name an input
+/// yet, and none give workers or hotstarts.
 #[derive(Clone, Copy)]
-pub(crate) enum Command<'a> {
-    Run { inp: &'a [u8], rpt: &'a [u8] },
-    Check { inp: &'a [u8], rpt: &'a [u8] },
+pub(crate) struct Command<'a> {
+    pub(crate) mode: Mode,
+    pub(crate) inp: Option<&'a [u8]>,
+    pub(crate) rpt: &'a [u8],
+    pub(crate) threads: Option<u8>,
+    pub(crate) hot_in: Option<&'a [u8]>,
+    pub(crate) hot_out: Option<&'a [u8]>,
 }
 
 // The command that the words are, if any: a mode and the names of two files.
 #[tactic(auto, unfolding(crate::specs::CommandWords::command_of))]
 pub(crate) fn read_words(words: &List<Text>) -> Option<Command<'_>>
-    ensures { option_map plain result ≡ command_of words.now }
+    ensures command { option_map plain result ≡ command_of words.now }
+    ensures names { IfSome result (λ command. ReadsInputAlone (plain command)) }
 {
     let [mode, inp, rpt] = words.as_slice() else {
         return None;
@@ -29,18 +36,28 @@ pub(crate) fn read_words(words: &List<Text>) -> Option<Command<'_>>
     if !is_file_name(rpt) {
         return None;
     }
-    named(mode.as_slice(), inp, rpt)
+    match named(mode.as_slice()) {
+        Some(mode) => Some(Command {
+            mode,
+            inp: Some(inp),
+            rpt,
+            threads: None,
+            hot_in: None,
+            hot_out: None,
+        }),
+        None => None,
+    }
 }
 
-// The command of this mode.
-fn named<'a>(mode: &[u8], inp: &'a [u8], rpt: &'a [u8]) -> Option<Command<'a>>
-    ensures { option_map plain result ≡ command_with mode.now inp.now rpt.now }
+// The mode of this word.
+fn named(word: &[u8]) -> Option<Mode>
+    ensures { result ≡ mode_of word.now }
 {
-    if mode == b"run".as_slice() {
-        return Some(Command::Run { inp, rpt });
+    if word == b"run".as_slice() {
+        return Some(Mode::Run);
     }
-    if mode == b"check".as_slice() {
-        return Some(Command::Check { inp, rpt });
+    if word == b"check".as_slice() {
+        return Some(Mode::Check);
     }
     None
 }

@@ -1,7 +1,7 @@
 // Reading the front of a source.
 ghost use Rattle.std.specs.Prelude.{◌≡◌, ◌-◌, ◌+◌, ◌≤◌, ◌<◌, ◌++◌, length, take, IfOk, OnOk, OnErr, IsErrOf, MatchResult};
 ghost use Rattle.std.specs.Io.KnownBytes.{Consumes, Keeps, IsAtEnd};
-ghost use Rattle.fault_ports.specs.Causes.{Rose};
+ghost use Rattle.swmm_top.specs.Answers.{FailsOnlyAt};
 ghost use Rattle.swmm_top.specs.Input.{TakesFront, AddsTaken};
 
 use fault_ports::Source;
@@ -24,7 +24,7 @@ pub(crate) fn read_front<S: Source>(
     most: usize,
 ) -> Result<Vec<u8>, ReadFault>
     ensures bytes { IfOk result (λ bytes. TakesFront most (S.left source.old) (S.left source.new) bytes.items) }
-    ensures cause { IsErrOf result ReadFault.Failed → Rose (S.faults source.old) (S.faults source.new) }
+    ensures cause { FailsOnlyAt ReadFault.Failed (S.faults source.old) (S.faults source.new) result }
 {
     let mut bytes = Vec::new(alloc);
     while bytes.len() < most {
@@ -43,10 +43,10 @@ fn take_some<S: Source>(
     room: usize,
 ) -> Result<usize, ReadFault>
     requires { 0 < room }
-    ensures taken { IfOk result (λ count. AddsTaken (S.left source.old) (S.left source.new) bytes.old.items bytes.new.items count) }
+    ensures taken { IfOk result (λ count.
+        AddsTaken (S.left source.old) (S.left source.new) bytes.old.items bytes.new.items count) }
     ensures within { IfOk result (λ count. count ≤ room) }
-    ensures kept { OnOk result (S.faults source.new ≡ S.faults source.old) }
-    ensures cause { IsErrOf result ReadFault.Failed → Rose (S.faults source.old) (S.faults source.new) }
+    ensures cause { FailsOnlyAt ReadFault.Failed (S.faults source.old) (S.faults source.new) result }
 {
     let mut piece = [0; PIECE];
     let ends = room.min(PIECE);

@@ -1,9 +1,25 @@
-// The law of outcomes.
+// The laws of outcomes, and of what is built.
 ghost use Rattle.std.specs.Prelude.{◌≡◌, List as Sequence, ℕ, Option as Maybe};
+ghost use Rattle.std.specs.Bool.{Decides};
+ghost use Rattle.net_types.specs.declared.project.Project.{Project as ProjectOf};
+ghost use Rattle.run_engine.specs.Ready.{IsBuilt};
+ghost use Rattle.swmm_top.specs.Built.{is_built};
 ghost use Rattle.swmm_top.specs.CommandWords.{Command as CommandOf};
 ghost use Rattle.swmm_top.specs.Outcome.{Outcome, IsOutcome};
 
 /// The same words and bytes have one outcome.
 pub fn outcome_is_unique()
-    ensures { (command : Maybe CommandOf) (input hotstart : Sequence ℕ) (one other : Outcome) → IsOutcome command input hotstart one → IsOutcome command input hotstart other → one ≡ other }
+    ensures { (command : Maybe CommandOf) (input hotstart : Sequence ℕ) (one other : Outcome)
+        → IsOutcome command input hotstart one → IsOutcome command input hotstart other → one ≡ other }
+{}
+
+/// All words and bytes have an outcome.
+pub fn outcome_exists()
+    ensures { (command : Maybe CommandOf) (input hotstart : Sequence ℕ)
+        → (given : Outcome) × IsOutcome command input hotstart given }
+{}
+
+/// The test of what is built tells exactly whether all is built that a run needs.
+pub fn built_is_told()
+    ensures { (project : ProjectOf) → Decides (is_built project) (IsBuilt project) }
 {}

@@ -1,11 +1,13 @@
 //! The commands of the program over ports that can fail. `swmm_top` does a command; its contract is the headline of
 //! the repository: where it answers, the status and the bytes that the report and the hotstart gained are those of an
-//! outcome of the words and the bytes (`specs/Outcome.antt`), and `outcome_is_unique` is the law that they have no two
-//! outcomes; the input was read to its end, and every fault has its cause in the count of its own port
-//! (`specs/Answers.antt`). `run_alone_top` and `check_top` carry the same clauses for their commands and always return.
-//! `file_names` gives the names that the words have (`specs/CommandWords.antt`, `specs/Names.antt`).
+//! outcome of the words and the bytes (`specs/Outcome.antt`), and `outcome_exists` and `outcome_is_unique` are the laws
+//! that they have one outcome and no two; the input was read to its end, and a port's fault is answered exactly where
+//! one of its calls failed, after which no call came (`specs/Answers.antt`). `run_alone_top` and `check_top` carry the
+//! same clauses for their commands and always return. `file_names` gives the names that the words have
+//! (`specs/CommandWords.antt`, `specs/Names.antt`), and a fault's text is `specs/TopFaults.antt`.
 #![tactic(auto)]
 
+mod built;
 mod command;
 mod fault;
 mod input;
@@ -21,8 +23,9 @@ mod status;
 mod tests;
 mod top;
 
+pub use built::is_built;
 pub use fault::{Port, TopFault};
-pub use laws::outcome_is_unique;
+pub use laws::{built_is_told, outcome_exists, outcome_is_unique};
 pub use names::{FileNames, file_names};
 pub use status::Status;
 pub use top::{INPUT_LIMIT, check_top, run_alone_top, swmm_top};

@@ -1,7 +1,9 @@
 // The names of a command's files.
 ghost use Rattle.std.specs.Prelude.{◌≡◌, IfOk};
+ghost use Rattle.std.specs.Option.{option_map};
 ghost use Rattle.swmm_top.specs.CommandWords.{command_of};
 ghost use Rattle.swmm_top.specs.Names.{names_of};
+ghost use Rattle.swmm_top.specs.Plain.{plain};
 
 use crate::command::{Command, read_words};
 use net_types::{List, OutOfMemory, Text};
@@ -18,25 +20,36 @@ pub struct FileNames {
 
 /// The names of a command's files, byte for byte. None exactly where the words aren't a command.
 pub fn file_names(alloc: Global, words: &List<Text>) -> Result<Option<FileNames>, OutOfMemory>
-    ensures { IfOk result (λ names. names ≡ names_of (command_of words.now)) }
+    ensures { IfOk result (λ names. names ≡ option_map names_of (command_of words.now)) }
 {
     match read_words(words) {
-        Some(Command::Run { inp, rpt }) => two_names(alloc, inp, rpt),
-        Some(Command::Check { inp, rpt }) => two_names(alloc, inp, rpt),
+        Some(command) => names_in(alloc, &command),
         None => Ok(None),
     }
 }
 
-// The names of an input and a report.
-fn two_names(alloc: Global, inp: &[u8], rpt: &[u8]) -> Result<Option<FileNames>, OutOfMemory>
-    ensures { IfOk result (λ names. names ≡ Some (record { inp = Some inp.now; rpt = rpt.now; hot_in = None; hot_out = None })) }
+// The names of this command's files.
+fn names_in(alloc: Global, command: &Command<'_>) -> Result<Option<FileNames>, OutOfMemory>
+    ensures { IfOk result (λ names. names ≡ Some (names_of (plain command.now))) }
 {
-    let inp = Text::from_slice(alloc, inp)?;
-    let rpt = Text::from_slice(alloc, rpt)?;
+    let inp = copy_of(alloc, command.inp)?;
+    let rpt = Text::from_slice(alloc, command.rpt)?;
+    let hot_in = copy_of(alloc, command.hot_in)?;
+    let hot_out = copy_of(alloc, command.hot_out)?;
     Ok(Some(FileNames {
-        inp: Some(inp),
+        inp,
         rpt,
-        hot_in: None,
-        hot_out: None,
+        hot_in,
+        hot_out,
     }))
+}
+
+// A copy of a name, where there is one.
+fn copy_of(alloc: Global, name: Option<&[u8]>) -> Result<Option<Text>, OutOfMemory>
+    ensures { IfOk result (λ copy. copy ≡ option_map (λ bytes. bytes.now) name.entry) }
+{
+    match name {
+        Some(bytes) => Ok(Some(Text::from_slice(alloc, bytes)?)),
+        None => Ok(None),
+    }
 }

@@ -1,16 +1,20 @@
 // The report of an input.
-ghost use Rattle.std.specs.Prelude.{List as Sequence, ℕ, ◌≤◌, length, ◌≡◌, ◌⊎◌, [], Ok, Err, IfOk, OnOk, OnErr, IsErrOf};
-ghost use Rattle.fault_ports.specs.Causes.{Rose};
+ghost use Rattle.std.specs.Prelude.{List as Sequence, ℕ, ◌≤◌, length, ◌≡◌, ◌⊎◌, [], ◌∷◌, Ok, Err, IfOk, OnOk, OnErr, IsErrOf};
 ghost use Rattle.fault_ports.specs.Output.{Puts};
 ghost use Rattle.inp_lines.specs.Lines.{lines_of};
 ghost use Rattle.inp_reader.specs.Reading.{ReadsAs};
-ghost use Rattle.inp_reader.specs.Soundness.{AcceptsSound, IsSound};
-ghost use Rattle.report_writer.specs.FaultReports.{input_too_long_report, line_faults_report};
-ghost use Rattle.run_engine.specs.Runnable.{IsRunnable};
-ghost use Rattle.swmm_top.specs.Answers.{ReportsOutcome};
+ghost use Rattle.inp_reader.specs.Soundness.{AcceptsSound};
+ghost use Rattle.net_types.specs.Sound.{IsSound};
+ghost use Rattle.net_types.specs.Faults.{number_of};
+ghost use Rattle.project_check.specs.Faultless.{IsFaultless};
+ghost use Rattle.project_check.specs.Tables.{HasTables};
+ghost use Rattle.report_writer.specs.FaultReports.{input_too_long_report, line_faults_report, project_faults_report};
+ghost use Rattle.swmm_top.specs.Answers.{EndsReport, ReportsOutcome};
+ghost use Rattle.swmm_top.specs.Readable.{AcceptsTables};
 ghost use Rattle.swmm_top.specs.Input.{input_limit};
-ghost use Rattle.swmm_top.specs.Outcome.{answer_of, answer_unless, project_outcome};
+ghost use Rattle.swmm_top.specs.Outcome.{answer_of, answer_unless, not_built, project_outcome};
 
+use crate::built::is_built;
 use crate::fault::{Port, TopFault};
 use crate::mode::Mode;
 use crate::run::report_run;
@@ -18,7 +22,7 @@ use crate::status::Status;
 use crate::top::INPUT_LIMIT;
 use fault_ports::{Failed, Sink};
 use inp_reader::{Read, read_project};
-use net_types::{LineFault, List, OutOfMemory, Project, ProjectFault};
+use net_types::{FaultKind, LineFault, List, OutOfMemory, Project, ProjectFault, Text};
 use project_check::check;
 use report_writer::{put_accepted, put_input_too_long, put_line_faults, put_project_faults};
 use std::alloc::Global;
@@ -31,9 +35,7 @@ pub(crate) fn report_input<W: Sink>(
     rpt: &mut W,
 ) -> Result<Status, TopFault>
     ensures outcome { ReportsOutcome mode input.now (W.held rpt.old) (W.held rpt.new) result }
-    ensures no_usage { IfOk result (λ status. status ≡ Status.Usage → ⊥) }
-    ensures cause { IsErrOf result (TopFault.Write Port.Rpt) → Rose (W.faults rpt.old) (W.faults rpt.new) }
-    ensures faults { OnErr result (IsErrOf result TopFault.OutOfMemory ⊎ IsErrOf result (TopFault.Write Port.Rpt)) }
+    ensures ends { EndsReport W.faults rpt.old rpt.new result }
 {
     if input.len() > INPUT_LIMIT {
         return report_too_long(rpt);
@@ -51,11 +53,10 @@ fn report_read<W: Sink>(
     read: Read,
     rpt: &mut W,
 ) -> Result<Status, TopFault>
-    requires { AcceptsSound read }
+    requires sound { AcceptsSound read }
+    requires tables { AcceptsTables read }
     ensures outcome { (input : Sequence ℕ) → length input ≤ input_limit → ReadsAs (lines_of input) read → ReportsOutcome mode input (W.held rpt.old) (W.held rpt.new) result }
-    ensures no_usage { IfOk result (λ status. status ≡ Status.Usage → ⊥) }
-    ensures cause { IsErrOf result (TopFault.Write Port.Rpt) → Rose (W.faults rpt.old) (W.faults rpt.new) }
-    ensures faults { OnErr result (IsErrOf result TopFault.OutOfMemory ⊎ IsErrOf result (TopFault.Write Port.Rpt)) }
+    ensures ends { EndsReport W.faults rpt.old rpt.new result }
 {
     match read {
         Read::Refused(faults) => report_line_faults(&faults, rpt),
@@ -67,8 +68,7 @@ fn report_read<W: Sink>(
 fn report_too_long<W: Sink>(rpt: &mut W) -> Result<Status, TopFault>
     ensures status { IfOk result (λ status. status ≡ Status.Refused) }
     ensures report { Puts (W.held rpt.old) (W.held rpt.new) (input_too_long_report) result }
-    ensures cause { IsErrOf result (TopFault.Write Port.Rpt) → Rose (W.faults rpt.old) (W.faults rpt.new) }
-    ensures faults { OnErr result (IsErrOf result (TopFault.Write Port.Rpt)) }
+    ensures ends { EndsReport W.faults rpt.old rpt.new result }
 {
     ended(Status::Refused, put_input_too_long(rpt))
 }
@@ -77,8 +77,7 @@ fn report_too_long<W: Sink>(rpt: &mut W) -> Result<Status, TopFault>
 fn report_line_faults<W: Sink>(faults: &List<LineFault>, rpt: &mut W) -> Result<Status, TopFault>
     ensures status { IfOk result (λ status. status ≡ Status.Refused) }
     ensures report { Puts (W.held rpt.old) (W.held rpt.new) (line_faults_report faults.now) result }
-    ensures cause { IsErrOf result (TopFault.Write Port.Rpt) → Rose (W.faults rpt.old) (W.faults rpt.new) }
-    ensures faults { OnErr result (IsErrOf result (TopFault.Write Port.Rpt)) }
+    ensures ends { EndsReport W.faults rpt.old rpt.new result }
 {
     ended(Status::Refused, put_line_faults(rpt, faults))
 }
@@ -90,12 +89,11 @@ fn report_project<W: Sink>(
     project: Project,
     rpt: &mut W,
 ) -> Result<Status, TopFault>
-    requires { IsSound project }
+    requires sound { IsSound project }
+    requires tables { HasTables project }
     ensures status { IfOk result (λ status. status ≡ (project_outcome mode project).status) }
     ensures report { Puts (W.held rpt.old) (W.held rpt.new) (project_outcome mode project).report result }
-    ensures no_usage { IfOk result (λ status. status ≡ Status.Usage → ⊥) }
-    ensures cause { IsErrOf result (TopFault.Write Port.Rpt) → Rose (W.faults rpt.old) (W.faults rpt.new) }
-    ensures faults { OnErr result (IsErrOf result TopFault.OutOfMemory ⊎ IsErrOf result (TopFault.Write Port.Rpt)) }
+    ensures ends { EndsReport W.faults rpt.old rpt.new result }
 {
     match check(alloc, &project) {
         Ok(faults) => report_checked(alloc, mode, project, &faults, rpt),
@@ -111,12 +109,10 @@ fn report_checked<W: Sink>(
     faults: &List<ProjectFault>,
     rpt: &mut W,
 ) -> Result<Status, TopFault>
-    requires { faults.now ≡ [] → IsRunnable project }
+    requires { faults.now ≡ [] → IsFaultless project }
     ensures status { IfOk result (λ status. status ≡ (answer_unless faults.now (answer_of mode project)).status) }
     ensures report { Puts (W.held rpt.old) (W.held rpt.new) (answer_unless faults.now (answer_of mode project)).report result }
-    ensures no_usage { IfOk result (λ status. status ≡ Status.Usage → ⊥) }
-    ensures cause { IsErrOf result (TopFault.Write Port.Rpt) → Rose (W.faults rpt.old) (W.faults rpt.new) }
-    ensures faults { OnErr result (IsErrOf result TopFault.OutOfMemory ⊎ IsErrOf result (TopFault.Write Port.Rpt)) }
+    ensures ends { EndsReport W.faults rpt.old rpt.new result }
 {
     match faults.as_slice() {
         [] => report_answer(alloc, mode, project, rpt),
@@ -131,17 +127,40 @@ fn report_answer<W: Sink>(
     project: Project,
     rpt: &mut W,
 ) -> Result<Status, TopFault>
-    requires { IsRunnable project }
+    requires { IsFaultless project }
     ensures status { IfOk result (λ status. status ≡ (answer_of mode project).status) }
     ensures report { Puts (W.held rpt.old) (W.held rpt.new) (answer_of mode project).report result }
-    ensures no_usage { IfOk result (λ status. status ≡ Status.Usage → ⊥) }
-    ensures cause { IsErrOf result (TopFault.Write Port.Rpt) → Rose (W.faults rpt.old) (W.faults rpt.new) }
-    ensures faults { OnErr result (IsErrOf result TopFault.OutOfMemory ⊎ IsErrOf result (TopFault.Write Port.Rpt)) }
+    ensures ends { EndsReport W.faults rpt.old rpt.new result }
 {
     match mode {
-        Mode::Run => report_run(alloc, project, rpt),
         Mode::Check => ended(Status::Done, put_accepted(rpt, &project)),
+        Mode::Run if is_built(&project) => report_run(alloc, project, rpt),
+        Mode::Run => report_not_built(alloc, rpt),
     }
+}
+
+// Reports that not all is built that a run needs.
+fn report_not_built<W: Sink>(alloc: Global, rpt: &mut W) -> Result<Status, TopFault>
+    ensures status { IfOk result (λ status. status ≡ Status.Refused) }
+    ensures report { Puts (W.held rpt.old) (W.held rpt.new) (project_faults_report not_built) result }
+    ensures ends { EndsReport W.faults rpt.old rpt.new result }
+{
+    match nameless_fault(alloc, FaultKind::NotInProfile) {
+        Ok(faults) => ended(Status::Refused, put_project_faults(rpt, &faults)),
+        Err(OutOfMemory) => Err(TopFault::OutOfMemory),
+    }
+}
+
+// One fault of this kind, of no object.
+fn nameless_fault(alloc: Global, kind: FaultKind) -> Result<List<ProjectFault>, OutOfMemory>
+    ensures { IfOk result (λ faults. faults ≡ record { number = number_of kind; name = [] } ∷ []) }
+{
+    let mut faults = List::new(alloc);
+    faults.push(ProjectFault {
+        number: kind.number(),
+        name: Text::from_slice(alloc, b"")?,
+    })?;
+    Ok(faults)
 }
 
 // The status after a report was put.

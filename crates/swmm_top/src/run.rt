@@ -1,9 +1,10 @@
 // The run of a project, and its report.
 ghost use Rattle.std.specs.Prelude.{◌≡◌, ◌⊎◌, IfOk, OnErr, IsErrOf};
-ghost use Rattle.fault_ports.specs.Causes.{Rose};
 ghost use Rattle.fault_ports.specs.Output.{Puts};
 ghost use Rattle.run_engine.specs.Report.{report_of};
-ghost use Rattle.run_engine.specs.Runnable.{IsRunnable};
+ghost use Rattle.project_check.specs.Faultless.{IsFaultless};
+ghost use Rattle.run_engine.specs.Ready.{IsBuilt};
+ghost use Rattle.swmm_top.specs.Answers.{EndsReport};
 
 use crate::fault::{Port, TopFault};
 use crate::report::ended;
@@ -19,11 +20,11 @@ pub(crate) fn report_run<W: Sink>(
     project: Project,
     rpt: &mut W,
 ) -> Result<Status, TopFault>
-    requires { IsRunnable project }
+    requires faultless { IsFaultless project }
+    requires built { IsBuilt project }
     ensures status { IfOk result (λ status. status ≡ Status.Done) }
     ensures report { Puts (W.held rpt.old) (W.held rpt.new) (report_of project) result }
-    ensures cause { IsErrOf result (TopFault.Write Port.Rpt) → Rose (W.faults rpt.old) (W.faults rpt.new) }
-    ensures faults { OnErr result (IsErrOf result TopFault.OutOfMemory ⊎ IsErrOf result (TopFault.Write Port.Rpt)) }
+    ensures ends { EndsReport W.faults rpt.old rpt.new result }
 {
     match open_run(alloc, project) {
         Ok(run) => finish_run(run, rpt),
@@ -35,8 +36,7 @@ pub(crate) fn report_run<W: Sink>(
 fn finish_run<W: Sink>(run: Run, rpt: &mut W) -> Result<Status, TopFault>
     ensures status { IfOk result (λ status. status ≡ Status.Done) }
     ensures report { Puts (W.held rpt.old) (W.held rpt.new) (report_of run.project) result }
-    ensures cause { IsErrOf result (TopFault.Write Port.Rpt) → Rose (W.faults rpt.old) (W.faults rpt.new) }
-    ensures faults { OnErr result (IsErrOf result TopFault.OutOfMemory ⊎ IsErrOf result (TopFault.Write Port.Rpt)) }
+    ensures ends { EndsReport W.faults rpt.old rpt.new result }
 {
     let mut run = run;
     let answer = make_run(&mut run, rpt);
@@ -48,8 +48,7 @@ fn finish_run<W: Sink>(run: Run, rpt: &mut W) -> Result<Status, TopFault>
 fn make_run<W: Sink>(run: &mut Run, rpt: &mut W) -> Result<Status, TopFault>
     ensures status { IfOk result (λ status. status ≡ Status.Done) }
     ensures report { Puts (W.held rpt.old) (W.held rpt.new) (report_of run.old.project) result }
-    ensures cause { IsErrOf result (TopFault.Write Port.Rpt) → Rose (W.faults rpt.old) (W.faults rpt.new) }
-    ensures faults { OnErr result (IsErrOf result TopFault.OutOfMemory ⊎ IsErrOf result (TopFault.Write Port.Rpt)) }
+    ensures ends { EndsReport W.faults rpt.old rpt.new result }
 {
     match run.advance_alone(rpt) {
         Ok(()) => ended(Status::Done, run.finish(rpt)),

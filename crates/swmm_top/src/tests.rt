@@ -281,15 +281,5 @@ fn names_the_files_of_a_command(rt: HostRuntime) -> Result<(), Fail> {
     };
     assert_eq!(rt; names.rpt.as_slice(), b"a.rpt".as_slice());
     assert!(rt; file_names(alloc, &words(alloc, b"demo")?)?.is_none());
-    let text = format!(in alloc;
-        "{}; {}; {}",
-        TopFault::Read(Port::Inp),
-        TopFault::Write(Port::Rpt),
-        TopFault::OutOfMemory
-    )?;
-    assert_eq!(rt;
-        text.as_str(),
-        "read fault: inp; write fault: rpt; out of memory"
-    );
     Ok(())
 }

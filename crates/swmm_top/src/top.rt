@@ -1,13 +1,13 @@
 // The commands.
-ghost use Rattle.std.specs.Prelude.{◌≡◌, ◌⊎◌, ◌+◌, ◌-◌, ◌^◌, ◌≤◌, ◌↔◌, min, [], None, Some, Ok, OnOk, OnErr, IfOk, IfErr, IsErrOf, IfSome, drop, take};
+ghost use Rattle.std.specs.Prelude.{◌≡◌, ◌≢◌, ◌⊎◌, Option, ◌+◌, ◌-◌, ◌^◌, ◌≤◌, ◌↔◌, min, [], None, Some, Ok, OnOk, OnErr, IfOk, IfErr, IsErrOf, IfSome, drop, take};
 ghost use Rattle.std.specs.Io.KnownBytes.{Appends, Keeps};
-ghost use Rattle.fault_ports.specs.Causes.{Rose};
+ghost use Rattle.fault_ports.specs.Causes.{no_faults};
 ghost use Rattle.fault_ports.specs.Output.{AppendsPrefix, Puts};
-ghost use Rattle.swmm_top.specs.Answers.{GivesOutcome, ReportsOutcome, HasCauses, ReadsToEnd};
+ghost use Rattle.swmm_top.specs.Answers.{BeforeWriting, EndsReport, FailsOnlyAt, GivesOutcome, HasCauses, ReadsToEnd, ReportsOutcome};
 ghost use Rattle.swmm_top.specs.CommandWords.{command_of, run_only, check_only};
 ghost use Rattle.swmm_top.specs.Input.{TakesFront, input_limit};
 
-use crate::command::{Command, read_words};
+use crate::command::read_words;
 use crate::fault::{Port, TopFault};
 use crate::input::{ReadFault, read_front};
 use crate::mode::Mode;
@@ -32,23 +32,27 @@ pub fn run_alone_top<S: Source, H: Source, W: Sink, K: Sink>(
     hot_out: &mut K,
 ) -> Result<Status, TopFault>
     // What it gives: the headline.
-    ensures outcome { GivesOutcome (run_only (command_of words.now)) (S.left inp.old) (H.left hot_in.old) (W.held rpt.old) (W.held rpt.new) (K.held hot_out.old) (K.held hot_out.new) result }
+    ensures outcome { GivesOutcome (run_only (command_of words.now))
+        (S.left inp.old) (H.left hot_in.old) (W.held rpt.old) (W.held rpt.new) (K.held hot_out.old) (K.held hot_out.new) result }
     ensures no_command { (result ≡ Ok Status.Usage) ↔ (run_only (command_of words.now) ≡ None) }
 
     // A fault has its cause in the port's count.
-    ensures causes { HasCauses (S.faults inp.old) (S.faults inp.new) (H.faults hot_in.old) (H.faults hot_in.new) (W.faults rpt.old) (W.faults rpt.new) (K.faults hot_out.old) (K.faults hot_out.new) result }
+    ensures causes { HasCauses (S.faults inp.old) (S.faults inp.new) (H.faults hot_in.old) (H.faults hot_in.new)
+        (W.faults rpt.old) (W.faults rpt.new) (K.faults hot_out.old) (K.faults hot_out.new) result }
 
     // What was read, and what a fault leaves.
-    ensures read_to_end { ReadsToEnd (run_only (command_of words.now)) (S.left inp.old) (S.left inp.new) result }
-    ensures unwritten { (port : Port) → IsErrOf result (TopFault.Read port) → (rpt.new ≡ rpt.old) × (hot_out.new ≡ hot_out.old) }
+    ensures read_to_end { ReadsToEnd (S.left inp.old) (S.left inp.new) result }
+    ensures unwritten { BeforeWriting result ((rpt.new ≡ rpt.old) × (hot_out.new ≡ hot_out.old)) }
 
     // Ports that aren't used.
     ensures unused { (hot_in.new ≡ hot_in.old) × (hot_out.new ≡ hot_out.old) }
     ensures unused_by_usage { run_only (command_of words.now) ≡ None → (inp.new ≡ inp.old) × (rpt.new ≡ rpt.old) }
 {
     match read_words(words) {
-        Some(Command::Run { .. }) => run_input(alloc, Mode::Run, inp, rpt),
-        Some(Command::Check { .. }) => Ok(Status::Usage),
+        Some(command) => match command.mode {
+            Mode::Run => run_input(alloc, Mode::Run, inp, rpt),
+            Mode::Check => Ok(Status::Usage),
+        },
         None => Ok(Status::Usage),
     }
 }
@@ -61,22 +65,26 @@ pub fn check_top<S: Source, W: Sink>(
     rpt: &mut W,
 ) -> Result<Status, TopFault>
     // What it gives: the headline. There is no hotstart to read or to write.
-    ensures outcome { GivesOutcome (check_only (command_of words.now)) (S.left inp.old) None (W.held rpt.old) (W.held rpt.new) None None result }
+    ensures outcome { GivesOutcome (check_only (command_of words.now))
+        (S.left inp.old) None (W.held rpt.old) (W.held rpt.new) None None result }
     ensures no_command { (result ≡ Ok Status.Usage) ↔ (check_only (command_of words.now) ≡ None) }
 
     // A fault has its cause in the port's count.
-    ensures causes { HasCauses (S.faults inp.old) (S.faults inp.new) 0 0 (W.faults rpt.old) (W.faults rpt.new) 0 0 result }
+    ensures causes { HasCauses (S.faults inp.old) (S.faults inp.new) no_faults no_faults
+        (W.faults rpt.old) (W.faults rpt.new) no_faults no_faults result }
 
     // What was read, and what a fault leaves.
-    ensures read_to_end { ReadsToEnd (check_only (command_of words.now)) (S.left inp.old) (S.left inp.new) result }
-    ensures unwritten { (port : Port) → IsErrOf result (TopFault.Read port) → rpt.new ≡ rpt.old }
+    ensures read_to_end { ReadsToEnd (S.left inp.old) (S.left inp.new) result }
+    ensures unwritten { BeforeWriting result (rpt.new ≡ rpt.old) }
 
     // Ports that aren't used.
     ensures unused_by_usage { check_only (command_of words.now) ≡ None → (inp.new ≡ inp.old) × (rpt.new ≡ rpt.old) }
 {
     match read_words(words) {
-        Some(Command::Check { .. }) => run_input(alloc, Mode::Check, inp, rpt),
-        Some(Command::Run { .. }) => Ok(Status::Usage),
+        Some(command) => match command.mode {
+            Mode::Check => run_input(alloc, Mode::Check, inp, rpt),
+            Mode::Run => Ok(Status::Usage),
+        },
         None => Ok(Status::Usage),
     }
 }
@@ -93,23 +101,27 @@ pub fn swmm_top<R: Threads + Wait + Sync, S: Source, H: Source, W: Sink, K: Sink
     _gate: &G,
 ) -> Result<Status, TopFault>
     // What it gives: the headline.
-    ensures outcome { GivesOutcome (command_of words.now) (S.left inp.old) (H.left hot_in.old) (W.held rpt.old) (W.held rpt.new) (K.held hot_out.old) (K.held hot_out.new) result }
+    ensures outcome { GivesOutcome (command_of words.now)
+        (S.left inp.old) (H.left hot_in.old) (W.held rpt.old) (W.held rpt.new) (K.held hot_out.old) (K.held hot_out.new) result }
     ensures no_command { (result ≡ Ok Status.Usage) ↔ (command_of words.now ≡ None) }
 
     // A fault has its cause in the port's count.
-    ensures causes { HasCauses (S.faults inp.old) (S.faults inp.new) (H.faults hot_in.old) (H.faults hot_in.new) (W.faults rpt.old) (W.faults rpt.new) (K.faults hot_out.old) (K.faults hot_out.new) result }
+    ensures causes { HasCauses (S.faults inp.old) (S.faults inp.new) (H.faults hot_in.old) (H.faults hot_in.new)
+        (W.faults rpt.old) (W.faults rpt.new) (K.faults hot_out.old) (K.faults hot_out.new) result }
 
     // What was read, and what a fault leaves.
-    ensures read_to_end { ReadsToEnd (command_of words.now) (S.left inp.old) (S.left inp.new) result }
-    ensures unwritten { (port : Port) → IsErrOf result (TopFault.Read port) → (rpt.new ≡ rpt.old) × (hot_out.new ≡ hot_out.old) }
+    ensures read_to_end { ReadsToEnd (S.left inp.old) (S.left inp.new) result }
+    ensures unwritten { BeforeWriting result ((rpt.new ≡ rpt.old) × (hot_out.new ≡ hot_out.old)) }
 
     // Ports that aren't used.
     ensures unused { (hot_in.new ≡ hot_in.old) × (hot_out.new ≡ hot_out.old) }
     ensures unused_by_usage { command_of words.now ≡ None → (inp.new ≡ inp.old) × (rpt.new ≡ rpt.old) }
 {
     match read_words(words) {
-        Some(Command::Check { .. }) => check_top(alloc, words, inp, rpt),
-        Some(Command::Run { .. }) => run_alone_top(alloc, words, inp, hot_in, rpt, hot_out),
+        Some(command) => match command.mode {
+            Mode::Check => check_top(alloc, words, inp, rpt),
+            Mode::Run => run_alone_top(alloc, words, inp, hot_in, rpt, hot_out),
+        },
         None => Ok(Status::Usage),
     }
 }
@@ -121,13 +133,15 @@ fn run_input<S: Source, W: Sink>(
     inp: &mut S,
     rpt: &mut W,
 ) -> Result<Status, TopFault>
-    ensures outcome { IfSome (S.left inp.old) (λ input. ReportsOutcome mode input (W.held rpt.old) (W.held rpt.new) result) }
-    ensures no_usage { IfOk result (λ status. status ≡ Status.Usage → ⊥) }
-    ensures read_input { IsErrOf result (TopFault.Read Port.Inp) → Rose (S.faults inp.old) (S.faults inp.new) }
-    ensures write_report { IsErrOf result (TopFault.Write Port.Rpt) → Rose (W.faults rpt.old) (W.faults rpt.new) }
-    ensures faults { OnErr result (IsErrOf result TopFault.OutOfMemory ⊎ (IsErrOf result (TopFault.Read Port.Inp) ⊎ IsErrOf result (TopFault.Write Port.Rpt))) }
-    ensures read_to_end { OnOk result (IfSome (S.left inp.old) (λ input. S.left inp.new ≡ Some (drop (input_limit + 1) input))) }
-    ensures unwritten { IsErrOf result (TopFault.Read Port.Inp) → rpt.new ≡ rpt.old }
+    ensures outcome { IfSome (S.left inp.old) (λ input.
+        ReportsOutcome mode input (W.held rpt.old) (W.held rpt.new) result) }
+    ensures no_usage { IfOk result (λ status. status ≢ Status.Usage) }
+    ensures read_input { FailsOnlyAt (TopFault.Read Port.Inp) (S.faults inp.old) (S.faults inp.new) result }
+    ensures write_report { FailsOnlyAt (TopFault.Write Port.Rpt) (W.faults rpt.old) (W.faults rpt.new) result }
+    ensures faults { OnErr result (IsErrOf result TopFault.OutOfMemory
+        ⊎ (IsErrOf result (TopFault.Read Port.Inp) ⊎ IsErrOf result (TopFault.Write Port.Rpt))) }
+    ensures read_to_end { ReadsToEnd (S.left inp.old) (S.left inp.new) result }
+    ensures unwritten { BeforeWriting result (rpt.new ≡ rpt.old) }
 {
     match read_input(alloc, inp) {
         Ok(bytes) => report_input(alloc, mode, &bytes, rpt),
@@ -138,7 +152,7 @@ fn run_input<S: Source, W: Sink>(
 // Reads the input to its end, or one byte past the limit.
 fn read_input<S: Source>(alloc: Global, inp: &mut S) -> Result<Vec<u8>, TopFault>
     ensures bytes { IfOk result (λ bytes. TakesFront (input_limit + 1) (S.left inp.old) (S.left inp.new) bytes.items) }
-    ensures cause { IsErrOf result (TopFault.Read Port.Inp) → Rose (S.faults inp.old) (S.faults inp.new) }
+    ensures cause { FailsOnlyAt (TopFault.Read Port.Inp) (S.faults inp.old) (S.faults inp.new) result }
     ensures faults { OnErr result (IsErrOf result TopFault.OutOfMemory ⊎ IsErrOf result (TopFault.Read Port.Inp)) }
 {
     match read_front(alloc, inp, INPUT_LIMIT + 1) {

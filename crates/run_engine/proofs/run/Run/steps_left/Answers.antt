@@ -8,4 +8,4 @@ pub returns-clause-at : goal.returns-clause-at
 returns-clause-at c = subst (λ (run : Progress). IsAt run run.counts.steps) c.self.view_is (kept_at c.self.invariant)
 
 pub steps-requires : goal.steps-requires
-steps-requires c = run_options c.self.inside.project c.self.invariant.runnable
+steps-requires c = run_options c.self.inside.project c.self.invariant.ready

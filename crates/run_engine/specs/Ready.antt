@@ -1,4 +1,4 @@
--- The projects that can be run: those without faults of which all is built (this project's profile).
+-- The projects that are ready to be run: those without faults of which all is built (this project's profile).
 use Rattle.net_types.specs.declared.project.Project.{Project}
 use Rattle.project_check.specs.Faultless.{IsFaultless}
 use Rattle.link_eval.specs.Built.{HasHydraulics}
@@ -9,6 +9,6 @@ pub record IsBuilt (project : Project) : Type 0 where
   pub hydraulics : HasHydraulics project
   pub inflows : HasBuiltInflows project
 
-pub record IsRunnable (project : Project) : Type 0 where
+pub record IsReady (project : Project) : Type 0 where
   pub faultless : IsFaultless project
   pub built : IsBuilt project
