@@ -9,8 +9,7 @@ ghost use Rattle.inp_objects.specs.Objects.{node_names};
 ghost use Rattle.inp_objects.specs.Records.{inflows_of, inflow_fault};
 
 use crate::items::{fault, item, no_more, number_or, word_at};
-use fixed_num::RECORD_LIMIT;
-use fixed_num::scaled_decimal;
+use fixed_num::{RECORD_LIMIT, scaled_decimal};
 use inp_lines::{
     Fault, Line, Names, Reading, SectionName, add_fault, is_too_long, needed, number_of,
     reading_of, too_few,

@@ -124,15 +124,35 @@ means_some lines none =
     let objects = means_objects units lines clean.objects in
     let bare = links_bare units lines clean.links objects.links_are in
     let project : Project = record {
-      title = title_of lines; warnings = warnings_of lines; options = options_of lines; gages = []; subs = [];
-      nodes = nodes_of units lines; links = placed_sections 0 (gather (section_found units lines) [] lines) (links_of units lines);
-      curves = []; series = []; patterns = []; inflows = inflows_of units lines; dry = []; rules = [];
+      title = title_of lines;
+      warnings = warnings_of lines;
+      options = options_of lines;
+      gages = [];
+      subs = [];
+      nodes = nodes_of units lines;
+      links = placed_sections 0 (gather (section_found units lines) [] lines) (links_of units lines);
+      curves = [];
+      series = [];
+      patterns = [];
+      inflows = inflows_of units lines;
+      dry = [];
+      rules = [];
     } in (
       project,
       record {
-        title_is = refl; warnings_are = refl; options_are = refl; bare_links = links_of units lines; objects_are = objects;
+        title_is = refl;
+        warnings_are = refl;
+        options_are = refl;
+        bare_links = links_of units lines;
+        objects_are = objects;
         links_are = sections_mean units lines (links_of units lines) clean.sections bare;
-        no_gages = refl; no_subs = refl; no_curves = refl; no_series = refl; no_patterns = refl; no_dry = refl; no_rules = refl;
+        no_gages = refl;
+        no_subs = refl;
+        no_curves = refl;
+        no_series = refl;
+        no_patterns = refl;
+        no_dry = refl;
+        no_rules = refl;
       },
     )
 

@@ -2,7 +2,6 @@
 ghost use Rattle.std.specs.Prelude.{◌≡◌};
 ghost use Rattle.net_types.specs.Empty.{default_options};
 
-
 /// The flow units of an input. CFS, GPM and MGD bring US units for all quantities, the others metric ones.
 #[derive(Clone, Copy, Debug, PartialEq, Eq)]
 pub enum FlowUnits {

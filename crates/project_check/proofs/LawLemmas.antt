@@ -145,6 +145,7 @@ few_links true ends begins h t = (few (nat_le 2 ends) (nat_le 1 begins) h refl, 
   few : (b c : Bool) → (b || c) ≡ false → nat_le 2 ends ≡ b → ends ≤ 1
   few true c h e = let no : ⊥ = cc in absurd no
   few false c h e = grind (arith, nat_tests)
+
   none : (b c : Bool) → (b || c) ≡ false → nat_le 1 begins ≡ c → begins ≡ 0
   none true c h e = let no : ⊥ = cc in absurd no
   none false true h e = let no : ⊥ = cc in absurd no

@@ -34,7 +34,12 @@ pub fn check(alloc: Global, project: &Project) -> Result<List<ProjectFault>, Out
     let mut faults = List::new(alloc);
     check_whole(alloc, project, &mut faults)?;
     let ends = node_ends(alloc, project)?;
-    check_nodes(alloc, project.nodes.as_slice(), ends.as_slice(), &mut faults)?;
+    check_nodes(
+        alloc,
+        project.nodes.as_slice(),
+        ends.as_slice(),
+        &mut faults,
+    )?;
     check_links(alloc, project.links.as_slice(), &mut faults)?;
     check_subs(alloc, project.subs.as_slice(), &mut faults)?;
     Ok(faults)
@@ -51,8 +56,18 @@ fn check_whole(
     ensures { OnOk result (faults.new ≡ general_faults project.now) }
 {
     let options = &project.options;
-    add_where(alloc, faults, !has_outfall(project.nodes.as_slice()), FaultKind::NoOutfall)?;
-    add_where(alloc, faults, ends_before_start(options), FaultKind::EndBeforeStart)?;
+    add_where(
+        alloc,
+        faults,
+        !has_outfall(project.nodes.as_slice()),
+        FaultKind::NoOutfall,
+    )?;
+    add_where(
+        alloc,
+        faults,
+        ends_before_start(options),
+        FaultKind::EndBeforeStart,
+    )?;
     add_where(alloc, faults, is_over_limit(options), FaultKind::OverLimit)?;
     Ok(())
 }

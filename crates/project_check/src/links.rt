@@ -32,7 +32,11 @@ pub(crate) fn check_links(
 }
 
 // Adds the fault of a link, if it has one.
-fn check_link(alloc: Global, link: &Link, faults: &mut List<ProjectFault>) -> Result<(), OutOfMemory>
+fn check_link(
+    alloc: Global,
+    link: &Link,
+    faults: &mut List<ProjectFault>,
+) -> Result<(), OutOfMemory>
     requires room { length faults.old ≤ 100 }
     requires range { LinkInRange link.now }
     requires table { HasTable link.now }
