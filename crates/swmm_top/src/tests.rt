@@ -222,16 +222,6 @@ fn line_feeds(alloc: Global, count: usize) -> Result<Vec<u8>, AllocError> {
 }
 
 #[test]
-fn reads_an_input_at_the_limit(rt: HostRuntime) -> Result<(), Fail> {
-    let alloc = rt.alloc();
-    let input = line_feeds(alloc, INPUT_LIMIT)?;
-    let ran = run_over(alloc, &input, 4096, &[], &[])?;
-    assert_eq!(rt; ran.answer, Ok(Status::Refused));
-    assert_eq!(rt; ran.report.held(), EMPTY_REPORT);
-    Ok(())
-}
-
-#[test]
 fn refuses_one_byte_past_the_limit(rt: HostRuntime) -> Result<(), Fail> {
     let alloc = rt.alloc();
     let input = line_feeds(alloc, INPUT_LIMIT + 1)?;
