@@ -46,7 +46,7 @@ impl PhaseLaw for FortyLinks {
             q: 7,
             area1: 1,
             area2: 2,
-            time: 4_000,
+            time: 3_600_000,
         }
     }
 
@@ -74,7 +74,7 @@ fn forty_links_add_up_and_settle(rt: HostRuntime) -> Result<(), OutOfMemory> {
     assert_eq!(rt; nets.inflows.as_slice(), [280, 0].as_slice());
     assert_eq!(rt; nets.outflows.as_slice(), [0, 280].as_slice());
     assert_eq!(rt; nets.areas.as_slice(), [80, 40].as_slice());
-    assert_eq!(rt; nets.least, 4_000);
+    assert_eq!(rt; nets.least, 3_600_000);
     let end = step_alone(&FortyLinks, &mut nets, 20);
     assert_eq!(rt;
         end,
