@@ -1,45 +1,14 @@
 use crate::read_objects;
 use inp_lines::split_lines;
-use net_types::{
-    Damping, FlowUnits, InfilKind, Inflow, Limiter, LinkKind, List, NodeKind, Options, Project,
-    Stage,
-};
+use net_types::{FlowUnits, Inflow, LinkKind, List, NodeKind, Project, Stage};
 use std::alloc::Global;
 use std::test::Fail;
 
 // A project without objects, in metric units.
 fn no_objects(alloc: Global) -> Project {
-    let options = Options {
-        units: FlowUnits::Cms,
-        infil: InfilKind::ModifiedHorton,
-        start: 0,
-        finish: 20_000,
-        report_ms: 10_000,
-        wet_ms: 300_000,
-        step_ms: 10_000,
-        ponding: false,
-        damping: Damping::Full,
-        limiter: Limiter::Both,
-        min_area: 50_000_000,
-        tolerance: 1_524,
-        max_trials: 2,
-        threads: 1,
-    };
-    Project {
-        title: List::new(alloc),
-        warnings: List::new(alloc),
-        options,
-        gages: List::new(alloc),
-        subs: List::new(alloc),
-        nodes: List::new(alloc),
-        links: List::new(alloc),
-        curves: List::new(alloc),
-        series: List::new(alloc),
-        patterns: List::new(alloc),
-        inflows: List::new(alloc),
-        dry: List::new(alloc),
-        rules: List::new(alloc),
-    }
+    let mut project = Project::empty(alloc);
+    project.options.units = FlowUnits::Cms;
+    project
 }
 
 #[test]

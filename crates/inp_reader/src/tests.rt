@@ -74,3 +74,25 @@ fn gives_faults_in_line_order(rt: HostRuntime) -> Result<(), Fail> {
     }
     Ok(())
 }
+
+// A hundred and one lines with too few items: the faults of the first hundred, lines 2 to 101.
+#[test]
+fn tells_a_hundred_faults(rt: HostRuntime) -> Result<(), Fail> {
+    let alloc = rt.alloc();
+    let mut input = Vec::new(alloc);
+    input.extend_from_slice(b"[JUNCTIONS]\n")?;
+    for _ in 0..101 {
+        input.extend_from_slice(b"J1\n")?;
+    }
+    assert!(rt; input.len() <= 33_554_432);
+    match read_project(alloc, &input)? {
+        Read::Accepted(_) => assert!(rt; false),
+        Read::Refused(faults) => {
+            let lines = faults.as_slice();
+            assert_eq!(rt; lines.len(), 100);
+            assert_eq!(rt; (lines[0].line, lines[0].number), (2, 203));
+            assert_eq!(rt; (lines[99].line, lines[99].number), (101, 203));
+        }
+    }
+    Ok(())
+}

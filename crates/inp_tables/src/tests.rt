@@ -1,16 +1,14 @@
 use crate::read_sections;
 use inp_lines::split_lines;
-use net_types::{
-    Damping, FlowUnits, InfilKind, Limiter, Link, LinkKind, List, Options, OutOfMemory, Project,
-    Section, Shape, Text,
-};
+use net_types::{FlowUnits, Link, LinkKind, List, OutOfMemory, Project, Section, Shape, Text};
 use std::alloc::Global;
 use std::test::Fail;
 
 // The reach of one conduit, before its cross-section is read.
 fn one_reach(alloc: Global) -> Result<Project, OutOfMemory> {
-    let mut links = List::new(alloc);
-    links.push(Link {
+    let mut project = Project::empty(alloc);
+    project.options.units = FlowUnits::Cms;
+    project.links.push(Link {
         name: Text::from_slice(alloc, b"C1")?,
         first: 0,
         second: 1,
@@ -28,40 +26,7 @@ fn one_reach(alloc: Global) -> Result<Project, OutOfMemory> {
         },
         section: None,
     })?;
-    Ok(Project {
-        title: List::new(alloc),
-        warnings: List::new(alloc),
-        options: metric_options(),
-        gages: List::new(alloc),
-        subs: List::new(alloc),
-        nodes: List::new(alloc),
-        links,
-        curves: List::new(alloc),
-        series: List::new(alloc),
-        patterns: List::new(alloc),
-        inflows: List::new(alloc),
-        dry: List::new(alloc),
-        rules: List::new(alloc),
-    })
-}
-
-fn metric_options() -> Options {
-    Options {
-        units: FlowUnits::Cms,
-        infil: InfilKind::ModifiedHorton,
-        start: 0,
-        finish: 20_000,
-        report_ms: 10_000,
-        wet_ms: 300_000,
-        step_ms: 10_000,
-        ponding: false,
-        damping: Damping::Full,
-        limiter: Limiter::Both,
-        min_area: 50_000_000,
-        tolerance: 1_524,
-        max_trials: 2,
-        threads: 1,
-    }
+    Ok(project)
 }
 
 #[test]

@@ -6,8 +6,8 @@ use crate::tail::put_figures;
 use crate::{RunCounts, put_accepted, put_head, put_tail};
 use fault_ports::MemSink;
 use net_types::{
-    Damping, FlowUnits, InfilKind, Limiter, Link, LinkKind, List, Node, NodeKind, Options,
-    OutOfMemory, Project, Section, Shape, Stage, StepAccount, Text,
+    FlowUnits, Link, LinkKind, List, Node, NodeKind, Options, OutOfMemory, Project, Section, Shape,
+    Stage, StepAccount, Text,
 };
 use std::alloc::Global;
 use std::test::Fail;
@@ -148,42 +148,21 @@ fn empty(alloc: Global, units: FlowUnits) -> Project
     ensures dates { HasCalendarDates result.options }
     ensures nodes { result.nodes ≡ [] }
 {
-    Project {
-        title: List::new(alloc),
-        warnings: List::new(alloc),
-        options: options(units),
-        gages: List::new(alloc),
-        subs: List::new(alloc),
-        nodes: List::new(alloc),
-        links: List::new(alloc),
-        curves: List::new(alloc),
-        series: List::new(alloc),
-        patterns: List::new(alloc),
-        inflows: List::new(alloc),
-        dry: List::new(alloc),
-        rules: List::new(alloc),
-    }
+    let mut project = Project::empty(alloc);
+    project.options = options(units);
+    project
 }
 
 fn options(units: FlowUnits) -> Options
     ensures { HasCalendarDates result }
 {
-    Options {
-        units,
-        infil: InfilKind::ModifiedHorton,
-        start: 1_704_067_200_000,
-        finish: 1_704_067_220_000,
-        report_ms: 10_000,
-        wet_ms: 300_000,
-        step_ms: 10_000,
-        ponding: false,
-        damping: Damping::Full,
-        limiter: Limiter::Both,
-        min_area: 50_000_000,
-        tolerance: 1_524,
-        max_trials: 2,
-        threads: 1,
-    }
+    let mut options = Options::unset();
+    options.units = units;
+    options.start = 1_704_067_200_000;
+    options.finish = 1_704_067_220_000;
+    options.report_ms = 10_000;
+    options.step_ms = 10_000;
+    options
 }
 
 fn node(alloc: Global, name: &[u8], kind: NodeKind) -> Result<Node, OutOfMemory> {
