@@ -1,0 +1,5 @@
+pub mod CurveLemmas
+pub mod DepthLemmas
+pub mod HortonLemmas
+pub mod MethodLemmas
+pub mod QuotientLemmas

@@ -1,0 +1,4 @@
+pub mod CurveNumber
+pub mod Depths
+pub mod Horton
+pub mod Infiltration
