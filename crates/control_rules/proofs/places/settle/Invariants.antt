@@ -1,0 +1,8 @@
+-- The places after the actions so far.
+use Rattle.std.proofs.Common.{◌≡◌, ℕ, ◌<◌, length, take}
+use Rattle.fixed_num.specs.Lists.{number}
+use Rattle.control_rules.specs.Places.{settled}
+use Rattle.control_rules.proofs.places.settle.Given as goal
+
+abbrev pub invariant-loop-action : goal.invariant-loop-action
+invariant-loop-action l = (link : ℕ) → link < length l.initial.places → number l.places link ≡ settled l.list (take l.action-index l.action-items) link (number l.initial.places link)

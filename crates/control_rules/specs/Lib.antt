@@ -1,0 +1,4 @@
+pub mod Conditions
+pub mod Tests
+pub mod Settings
+pub mod Places
