@@ -1,0 +1,5 @@
+pub mod CheckLemmas
+pub mod WriteLemmas
+pub mod ColumnLemmas
+pub mod ReadLemmas
+pub mod EqualLemmas

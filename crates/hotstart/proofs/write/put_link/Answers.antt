@@ -1,0 +1,8 @@
+use Rattle.fault_ports.proofs.OutputLemmas.{puts_after, prefix_stays}
+use Rattle.hotstart.proofs.write.put_link.Goals as goal
+
+pub returns-in-Ok-clause-bytes : goal.returns-in-Ok-clause-bytes
+returns-in-Ok-clause-bytes g c = puts_after _ _ _ _ _ c.put_value-in-Ok.result c.in-Ok.ensures.bytes c.put_value-in-Ok.ensures.bytes
+
+pub returns-in-Err-clause-bytes : goal.returns-in-Err-clause-bytes
+returns-in-Err-clause-bytes g c = prefix_stays _ _ _ _ c.in-Err.ensures.bytes

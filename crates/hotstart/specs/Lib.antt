@@ -1,0 +1,5 @@
+pub mod HotRanges
+pub mod HotBytes
+pub mod Layout
+pub mod Checks
+pub mod Reading
