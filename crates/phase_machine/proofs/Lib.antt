@@ -1,0 +1,16 @@
+pub mod Totals
+pub mod PlaceLemmas
+pub mod Progress
+pub mod Loaded
+pub mod Parts
+pub mod Effects
+pub mod Fitting
+pub mod HeldActs
+pub mod Claims
+pub mod Closing
+pub mod Resets
+pub mod LeadActs
+pub mod Keeps
+pub mod Starts
+pub mod Trials
+pub mod Bounds
