@@ -1,3 +1,5 @@
 pub mod RangeLemmas
+pub mod GeometryLemmas
+pub mod InertiaLemmas
 pub mod TravelLemmas
 pub mod TestLemmas

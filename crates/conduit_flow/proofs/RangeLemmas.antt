@@ -2,7 +2,7 @@
 use Rattle.std.proofs.Common.{◌≡◌, ℕ, zero, suc, ◌+◌, ◌*◌, ◌^◌, ◌<◌, ◌≤◌, ℤ, pos, negsuc, ◌+ℤ◌, ◌*ℤ◌, ◌≤ℤ◌, neg_ℤ, unsigned_abs, arith}
 use Rattle.std.specs.Int.{int_min}
 use Rattle.std.proofs.lemmas.Int.{ints, clamps}
-use Rattle.fixed_num.specs.Ranges.{IsBetween, IsWithin, IsStepLength}
+use Rattle.fixed_num.specs.Ranges.{IsBetween, IsFall, IsWaterDepth, IsWithin, IsStepLength}
 use Rattle.fixed_num.specs.declared.constants.TheConstants.{GRAVITY}
 use Rattle.fixed_num.specs.Roots.{root3_of}
 use Rattle.fixed_num.specs.Rounding.{quo_of}
@@ -11,20 +11,38 @@ use Rattle.std.proofs.lemmas.Int.{unsigned_abs-mul}
 use Rattle.std.proofs.Math.Nat.{mul-div-le, mul-le-mul_left}
 use Rattle.std.specs.Prelude.{◌/◌}
 use Rattle.fixed_num.proofs.RootLemmas.{root3_at}
-use Rattle.conduit_flow.specs.Geometry.{prism_of, end_area_of}
+use Rattle.xsect_tables.specs.LookUps.{area_of}
+use Rattle.xsect_tables.specs.SectionTable.{SectionTable}
+use Rattle.xsect_tables.proofs.TableLemmas.{area_of-between}
+use Rattle.conduit_flow.specs.Conduits.{IsConduitTable}
+use Rattle.conduit_flow.specs.Geometry.{IsFlowArea, prism_of, end_area_of}
 use Rattle.conduit_flow.specs.Momentum.{velocity_of, pressure_of, radius_power_of, friction_of, slowed_of}
 
-pub prism-between : {area length barrels : ℤ} → IsBetween (pos 0) area (pos (10 ^ 11)) → IsBetween (pos 10_000) length (pos (10 ^ 11)) → IsBetween (pos 1) barrels (pos 100) → IsBetween (pos 0) (prism_of area length barrels) (pos (10 ^ 22))
+-- ---- depths and areas
+pub mean-between : {a b : ℤ} → IsWaterDepth a → IsWaterDepth b → IsWaterDepth (quo_of (a +ℤ b) (pos 2))
+mean-between {a} {b} p q =
+    let both : IsBetween (pos 0) (a +ℤ b) (pos (8 * 10 ^ 10)) = between_up (between_add p q) tt tt in
+    between_up (between_quo_by {y = pos 2} 2 both (le_number tt) tt) tt tt
+
+pub fall_of_depth : {y : ℤ} → IsWaterDepth y → IsFall y
+fall_of_depth h = within_between h
+
+pub flow_area-between : {table : SectionTable} {y : ℤ} → IsConduitTable table → IsWaterDepth y → IsFlowArea (area_of table y)
+flow_area-between t h =
+    let area = area_of-between t.rows t.areas (fall_of_depth h) in
+    record { from = area.from; to = omega (arith, ints, area.to, t.full.to) }
+
+pub prism-between : {area length barrels : ℤ} → IsBetween (pos 0) area (pos (5 * 10 ^ 11)) → IsBetween (pos 10_000) length (pos (10 ^ 11)) → IsBetween (pos 1) barrels (pos 100) → IsBetween (pos 0) (prism_of area length barrels) (pos (10 ^ 22))
 unfolding prism_of
 prism-between a l b = between_up (between_mul b (between_quo_by {y = pos 1_000} 1_000 (between_mul a l) (le_number tt) tt)) tt tt
 
 -- the water surface of half a barrel
-pub half-between : {width middle length : ℤ} → IsBetween (pos 0) width (pos (10 ^ 12)) → IsBetween (pos 0) middle (pos (10 ^ 12)) → IsBetween (pos 10_000) length (pos (10 ^ 11)) → IsBetween (pos 0) (quo_of ((width +ℤ middle) *ℤ length) (pos 4_000_000)) (pos (10 ^ 17))
+pub half-between : {width middle length : ℤ} → IsBetween (pos 0) width (pos (10 ^ 18)) → IsBetween (pos 0) middle (pos (10 ^ 18)) → IsBetween (pos 10_000) length (pos (10 ^ 11)) → IsBetween (pos 0) (quo_of ((width +ℤ middle) *ℤ length) (pos 4_000_000)) (pos (10 ^ 23))
 half-between {width = width} {middle = middle} w m l =
-    let both : IsBetween (pos 0) (width +ℤ middle) (pos (2 * 10 ^ 12)) = between_up (between_add w m) tt tt in
+    let both : IsBetween (pos 0) (width +ℤ middle) (pos (2 * 10 ^ 18)) = between_up (between_add w m) tt tt in
     between_up (between_quo_by {y = pos 4_000_000} 4_000_000 (between_mul both l) (le_number tt) tt) tt tt
 
-pub end_area-between : {width middle length barrels : ℤ} → IsBetween (pos 0) width (pos (10 ^ 12)) → IsBetween (pos 0) middle (pos (10 ^ 12)) → IsBetween (pos 10_000) length (pos (10 ^ 11)) → IsBetween (pos 1) barrels (pos 100) → IsBetween (pos 0) (end_area_of width middle length barrels) (pos (5 * 10 ^ 12))
+pub end_area-between : {width middle length barrels : ℤ} → IsBetween (pos 0) width (pos (10 ^ 18)) → IsBetween (pos 0) middle (pos (10 ^ 18)) → IsBetween (pos 10_000) length (pos (10 ^ 11)) → IsBetween (pos 1) barrels (pos 100) → IsBetween (pos 0) (end_area_of width middle length barrels) (pos (5 * 10 ^ 12))
 unfolding end_area_of
 end_area-between {width = width} {middle = middle} {length = length} {barrels = barrels} w m l b =
     let all = between_mul b (half-between w m l) in
@@ -40,10 +58,10 @@ velocity-within flow area = within_cut (quo_of (flow *ℤ pos 1_000_000) area) (
 pub step-between : {dt : ℤ} → IsStepLength dt → IsBetween (pos 0) dt (pos 3_600_000)
 step-between t = record { from = t.least; to = t.most }
 
-pub drive-within : {area fall dt : ℤ} → IsBetween (pos 1) area (pos (10 ^ 11)) → IsWithin (4 * 10 ^ 10) fall → IsStepLength dt → IsWithin (10 ^ 36) (GRAVITY *ℤ area *ℤ fall *ℤ dt)
+pub drive-within : {area fall dt : ℤ} → IsBetween (pos 1) area (pos (5 * 10 ^ 11)) → IsWithin (4 * 10 ^ 10) fall → IsStepLength dt → IsWithin (10 ^ 36) (GRAVITY *ℤ area *ℤ fall *ℤ dt)
 drive-within a f t = within_up (within_mul (within_mul (within_mul (within_number 9_814_560) (within_between a)) f) (within_between (step-between t))) tt
 
-pub pressure-within : {area fall dt length : ℤ} → IsBetween (pos 1) area (pos (10 ^ 11)) → IsWithin (4 * 10 ^ 10) fall → IsStepLength dt → IsBetween (pos 10_000) length (pos (10 ^ 11)) → IsWithin (10 ^ 23) (pressure_of area fall dt length)
+pub pressure-within : {area fall dt length : ℤ} → IsBetween (pos 1) area (pos (5 * 10 ^ 11)) → IsWithin (4 * 10 ^ 10) fall → IsStepLength dt → IsBetween (pos 10_000) length (pos (10 ^ 11)) → IsWithin (10 ^ 23) (pressure_of area fall dt length)
 unfolding pressure_of
 pressure-within a f t l =
     let below = between_mul (between_number (pos 1_000_000_000)) l in
@@ -58,31 +76,32 @@ root3-positive (pos a) h = let r = root3_at a in positive r.0 r.1.0 r.1.2
     positive zero e l = absurd (omega (arith, ints))
     positive (suc r) e l = omega (arith, ints, e)
 
-pub root-between : {radius : ℤ} → IsBetween (pos 1) radius (pos (10 ^ 9)) → IsBetween (pos 1) (root3_of (radius *ℤ pos 1_000_000_000)) (pos (10 ^ 6))
+pub root-between : {radius : ℤ} → IsBetween (pos 1) radius (pos (3 * 10 ^ 13)) → IsBetween (pos 1) (root3_of (radius *ℤ pos 1_000_000_000)) (pos (10 ^ 8))
 root-between {radius = radius} r =
     let cube = between_mul r (between_number (pos 1_000_000_000)) in
-    let root : IsBetween (pos 0) (root3_of (radius *ℤ pos 1_000_000_000)) (pos (10 ^ 6)) = between_root3 cube tt in
+    let root : IsBetween (pos 0) (root3_of (radius *ℤ pos 1_000_000_000)) (pos (10 ^ 8)) = between_root3 cube tt in
     let some : pos 1 ≤ℤ (radius *ℤ pos 1_000_000_000) = omega (arith, ints, cube.from) in
     record { from = root3-positive (radius *ℤ pos 1_000_000_000) some; to = root.to }
 
-pub radius_power-between : {radius : ℤ} → IsBetween (pos 1) radius (pos (10 ^ 9)) → IsBetween (pos 1) (radius_power_of radius) (pos (10 ^ 15))
+pub radius_power-between : {radius : ℤ} → IsBetween (pos 1) radius (pos (3 * 10 ^ 13)) → IsBetween (pos 1) (radius_power_of radius) (pos (10 ^ 22))
 unfolding radius_power_of
-radius_power-between r = between_mul r (root-between r)
+radius_power-between r = between_up (between_mul r (root-between r)) tt tt
 
 pub drag-between : {n6 velocity dt : ℤ} → IsBetween (pos 1_000) n6 (pos (10 ^ 6)) → IsWithin 15_240_000 velocity → IsStepLength dt → IsBetween (pos 0) (GRAVITY *ℤ (n6 *ℤ n6) *ℤ pos (unsigned_abs velocity) *ℤ dt) (pos (10 ^ 33))
 drag-between n v t = between_up (between_mul (between_mul (between_mul (between_number (GRAVITY)) (between_mul n n)) (between_abs v)) (step-between t)) tt tt
 
-pub friction-between : {n6 velocity dt radius : ℤ} → IsBetween (pos 1_000) n6 (pos (10 ^ 6)) → IsWithin 15_240_000 velocity → IsStepLength dt → IsBetween (pos 1) radius (pos (10 ^ 9)) → IsBetween (pos 0) (friction_of n6 velocity dt radius) (pos (10 ^ 26))
+pub friction-between : {n6 velocity dt radius : ℤ} → IsBetween (pos 1_000) n6 (pos (10 ^ 6)) → IsWithin 15_240_000 velocity → IsStepLength dt → IsBetween (pos 1) radius (pos (3 * 10 ^ 13)) → IsBetween (pos 0) (friction_of n6 velocity dt radius) (pos (10 ^ 26))
 unfolding friction_of
 friction-between n v t r =
     let below = between_mul (between_number (pos 10_000_000)) (radius_power-between r) in
     between_up (between_quo_by 10_000_000 (drag-between n v t) below.from tt) tt tt
 
-pub slowed-within : {old pressure friction : ℤ} → IsWithin (10 ^ 12) old → IsWithin (10 ^ 23) pressure → IsBetween (pos 0) friction (pos (10 ^ 26)) → IsWithin (10 ^ 24) (slowed_of old pressure friction)
+pub slowed-within : {driven friction losses : ℤ} → IsWithin (2 * 10 ^ 23) driven → IsBetween (pos 0) friction (pos (10 ^ 26)) → IsBetween (pos 0) losses (pos (10 ^ 19))
+    → IsWithin (10 ^ 24) (slowed_of driven friction losses)
 unfolding slowed_of
-slowed-within {friction = friction} o p f =
-    let divisor : pos 1_000_000_000 ≤ℤ (pos 1_000_000_000 +ℤ friction) = omega (arith, ints, f.from) in
-    within_up (within_quo_by 1_000_000_000 (within_mul (within_add o p) (within_number 1_000_000_000)) divisor tt) tt
+slowed-within {friction = friction} {losses = losses} d f l =
+    let divisor : pos 1_000_000_000 ≤ℤ (pos 1_000_000_000 +ℤ friction +ℤ losses) = omega (arith, ints, f.from, l.from) in
+    within_up (within_quo_by 1_000_000_000 (within_mul d (within_number 1_000_000_000)) divisor tt) tt
 
 -- ---- the greatest flow
 -- what is no more than a barrel's part makes no more than the whole over all barrels

@@ -5,7 +5,8 @@ use Rattle.std.proofs.lemmas.Int.{ints, clamps}
 use Rattle.fixed_num.specs.Ranges.{IsBetween, IsConduitLength, IsTravelTime}
 use Rattle.fixed_num.proofs.Bounds.{quo_of-from_zero}
 use Rattle.conduit_flow.specs.declared.geometry.Middle.{Middle}
-use Rattle.conduit_flow.specs.TravelTime.{flow_speed_of, wave_speed_of, travel_time_of}
+use Rattle.conduit_flow.specs.Momentum.{flow_speed_of}
+use Rattle.conduit_flow.specs.TravelTime.{wave_speed_of, travel_time_of}
 
 least : (m : ℤ) (x : ℤ) → pos 0 ≤ℤ m → pos 0 ≤ℤ x → IsBetween (pos 0) (int_min m x) m
 least m x g h = record { from = omega (arith, ints, clamps); to = omega (arith, ints, clamps) }

@@ -1,13 +1,13 @@
--- What bounds the flow of a conduit's barrel (Reference Manual volume II, chapter 3; User's Manual, NORMAL_FLOW_LIMITED, flap gates
--- and maximum flow). Flows are cm³/s.
-use Rattle.std.specs.Prelude.{◌/◌, Bool, ◌&&◌, ◌||◌, if◌then◌else◌, ℤ, pos, ◌-ℤ◌, ◌*ℤ◌, neg_ℤ, unsigned_abs, int_le, int_lt}
+-- What bounds the flow of a conduit's barrel (Reference Manual volume II, chapter 3; User's Manual,
+-- NORMAL_FLOW_LIMITED, flap gates and maximum flow). Flows are cm³/s.
+use Rattle.std.specs.Prelude.{◌/◌, Bool, ◌&&◌, ◌||◌, if◌then◌else◌, ℤ, pos, ◌-ℤ◌, ◌*ℤ◌, neg_ℤ, unsigned_abs, int_le}
+use Rattle.std.specs.Prelude.{int_lt}
 use Rattle.std.specs.Int.{int_min}
 use Rattle.std.specs.Ordering.{int_eq}
 use Rattle.fixed_num.specs.Ranges.{cut_of}
 use Rattle.fixed_num.specs.Rounding.{quo_of}
 use Rattle.net_types.specs.declared.options.Limiter.{Limiter}
 use Rattle.net_types.specs.declared.options.Limiter.TheVariants.{Slope, Froude, Both}
-use Rattle.xsect_tables.specs.LookUps.{area_of}
 use Rattle.xsect_tables.specs.NormalFlow.{celerity_of, normal_flow_of}
 use Rattle.xsect_tables.specs.SectionTable.{SectionTable, full_height}
 use Rattle.conduit_flow.specs.declared.conduit.ConduitData.{ConduitData}
@@ -32,13 +32,13 @@ is_heeded Both flatter fast = flatter || fast
 unfoldable pub is_limited : ConduitData → SectionTable → Ends → ℤ → Bool
 is_limited conduit table ends q =
     int_lt (pos 0) q && int_lt ends.depth1 (full_height table)
-    && is_heeded conduit.limiter (is_flatter conduit ends) (is_fast q (area_of table ends.depth1) ends.width1)
+    && is_heeded conduit.limiter (is_flatter conduit ends) (is_fast q ends.area1 ends.width1)
 
 -- such a flow is at most the normal flow at the upper end
 unfoldable pub limited_of : ConduitData → SectionTable → Ends → ℤ → ℤ
 limited_of conduit table ends q =
-    if is_limited conduit table ends q then int_min q (normal_flow_of table ends.depth1 conduit.n6 (conduit.z1 -ℤ conduit.z2) conduit.length)
-    else q
+    let normal = normal_flow_of table ends.depth1 conduit.n6 (conduit.z1 -ℤ conduit.z2) conduit.length in
+    if is_limited conduit table ends q then int_min q normal else q
 
 -- ---- what bars a flow
 -- a flap gate lets nothing run back

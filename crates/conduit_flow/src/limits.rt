@@ -2,8 +2,10 @@
 ghost use Rattle.std.specs.Prelude.{◌≡◌, ◌*◌, ◌^◌, ℤ, pos, ◌*ℤ◌, int_lt};
 ghost use Rattle.fixed_num.specs.Ranges.{IsWithin, IsBetween, AreBarrels, IsFlow, IsFlowLimit};
 ghost use Rattle.conduit_flow.specs.Conduits.{IsConduit, IsConduitTable};
-ghost use Rattle.conduit_flow.specs.Geometry.{EndsInRange};
-ghost use Rattle.conduit_flow.specs.Limits.{is_flatter as flatter_of, is_fast as fast_of, is_limited as limited_at, limited_of, gated_of, from_dry as dry_of, supplied_of, greatest_of, held_of};
+ghost use Rattle.conduit_flow.specs.Geometry.{EndsInRange, IsFlowArea, IsTableWidth};
+ghost use Rattle.conduit_flow.specs.Limits.{is_flatter as flatter_of, is_fast as fast_of, is_limited as limited_at};
+ghost use Rattle.conduit_flow.specs.Limits.{limited_of, gated_of, from_dry as dry_of, supplied_of, greatest_of};
+ghost use Rattle.conduit_flow.specs.Limits.{held_of};
 
 use crate::conduit::ConduitData;
 use crate::geometry::Ends;
@@ -25,8 +27,8 @@ fn is_flatter(conduit: &ConduitData, ends: &Ends) -> bool
 #[tactic(auto, using(fixed_num::proofs::Bounds::casts), unfolding(crate::specs::Limits::is_fast))]
 fn is_fast(q: i128, area: i64, width: i64) -> bool
     requires q { IsWithin (10 ^ 24) q }
-    requires area { IsBetween (pos 0) area (pos (10 ^ 11)) }
-    requires width { IsBetween (pos 0) width (pos (10 ^ 12)) }
+    requires area { IsFlowArea area }
+    requires width { IsTableWidth width }
     ensures { result ≡ fast_of q area width }
 {
     if area <= 0 {
@@ -59,12 +61,12 @@ fn is_limited(conduit: &ConduitData, table: &Table, ends: &Ends, q: i128) -> boo
     }
     match conduit.limiter {
         Limiter::Slope => is_flatter(conduit, ends),
-        Limiter::Froude => is_fast(q, table.area(ends.depth1), ends.width1),
+        Limiter::Froude => is_fast(q, ends.area1, ends.width1),
         Limiter::Both => {
             if is_flatter(conduit, ends) {
                 return true;
             }
-            is_fast(q, table.area(ends.depth1), ends.width1)
+            is_fast(q, ends.area1, ends.width1)
         }
     }
 }

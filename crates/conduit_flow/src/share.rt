@@ -4,7 +4,8 @@ ghost use Rattle.fixed_num.specs.Ranges.{AreBarrels, IsFlow, IsHead};
 ghost use Rattle.phase_law.specs.Ranges.{LinkFixedInRange, ShareInRange};
 ghost use Rattle.conduit_flow.specs.Conduits.{IsConduit, IsConduitTable};
 ghost use Rattle.conduit_flow.specs.Geometry.{EndsInRange, MiddleInRange, IsWet};
-ghost use Rattle.conduit_flow.specs.ConduitShare.{share_of, open_share_of, wet_share_of, barrel_flow_of, barrel_part_of, no_share as nothing};
+ghost use Rattle.conduit_flow.specs.ConduitShare.{share_of, open_share_of, wet_share_of, barrel_flow_of};
+ghost use Rattle.conduit_flow.specs.ConduitShare.{barrel_part_of, no_share as nothing};
 
 use crate::conduit::ConduitData;
 use crate::geometry::{Ends, Middle, end_area, ends_at, mean_depth, middle_at};
@@ -17,8 +18,9 @@ use xsect_tables::Table;
 
 /// The flow of a conduit in a trial, and the water surface that it adds at each end.
 ///
-/// `near` and `far` are the heads of the nodes at its first and its second end (µm, ±2·10^10), `last` is its flow in the last trial
-/// (cm³/s, ±10^12), `first` is true in the first trial of a step, and `fixed` is what stays the same over the step's trials.
+/// `near` and `far` are the heads of the nodes at its first and its second end (µm, ±2·10^10), `last` is its flow in
+/// the last trial (cm³/s, ±10^12), `first` is true in the first trial of a step, and `fixed` is what stays the same
+/// over the step's trials.
 ///
 /// Source: Reference Manual volume II, chapter 3, in whole numbers by this project's profile.
 #[tactic(auto, using(fixed_num::proofs::Bounds::casts), unfolding(crate::specs::ConduitShare::share_of))]
@@ -131,6 +133,9 @@ fn barrel_part(flow: i64, barrels: i64) -> i64
     ensures value { result ≡ barrel_part_of flow barrels }
     ensures range { IsFlow result }
 {
+    if barrels == 1 {
+        return flow;
+    }
     quo(flow as i128, barrels as i128) as i64
 }
 

@@ -1,5 +1,5 @@
 ghost use Rattle.std.specs.Prelude.{◌*◌, ◌^◌, ℤ, pos};
-ghost use Rattle.fixed_num.specs.Ranges.{IsFlow, IsHead};
+ghost use Rattle.fixed_num.specs.Ranges.{IsBetween, IsFlow, IsHead};
 ghost use Rattle.phase_law.specs.Ranges.{LinkFixedInRange};
 ghost use Rattle.conduit_flow.specs.Conduits.{IsConduit, IsConduitTable};
 
@@ -22,7 +22,6 @@ fn channel(rt: &impl Abort) -> Table
     let full = table.full_area();
     assert!(rt; full >= 1);
     assert!(rt; full <= 100_000_000_000);
-    assert!(rt; !table.is_closed());
     table
 }
 
@@ -56,6 +55,77 @@ fn step(q_old: i64) -> LinkFixed
         a_old: 0,
         setting: 1_000_000,
         dt: 10_000,
+    }
+}
+
+// The table of two pipes of one metre side by side.
+fn pipes(rt: &impl Abort) -> Table
+    ensures { IsConduitTable result }
+{
+    let section = Section {
+        shape: Shape::Circular,
+        full: 1_000_000,
+        barrels: 2,
+    };
+    let table = Table::build(&section);
+    let full = table.full_area();
+    assert!(rt; full >= 1);
+    assert!(rt; full <= 100_000_000_000);
+    table
+}
+
+// A sewer 100 m long of roughness 0.013, without losses.
+fn sewer(damping: Damping, flap: bool) -> ConduitData
+    ensures { IsConduit result }
+{
+    ConduitData {
+        z1: 0,
+        z2: 0,
+        length: 100_000_000,
+        n6: 13_000,
+        q_max: 0,
+        entry6: 0,
+        exit6: 0,
+        avg6: 0,
+        flap,
+        damping,
+        limiter: Limiter::Both,
+    }
+}
+
+// The same with losses at its two ends and on the way.
+fn lossy(damping: Damping) -> ConduitData
+    ensures { IsConduit result }
+{
+    ConduitData {
+        entry6: 500_000,
+        exit6: 1_000_000,
+        avg6: 100_000,
+        ..sewer(damping, false)
+    }
+}
+
+// A step of five seconds from an old flow over an old area.
+fn short_step(q_old: i64, a_old: i64) -> LinkFixed
+    requires flow { IsFlow q_old }
+    requires area { IsBetween (pos 0) a_old (pos (10 ^ 12)) }
+    ensures { LinkFixedInRange result }
+{
+    LinkFixed {
+        q_old,
+        a_old,
+        setting: 1_000_000,
+        dt: 5_000,
+    }
+}
+
+// A share with areas of its own at each end.
+fn uneven(q: i64, area1: i64, area2: i64, time: i64) -> Share {
+    Share {
+        q,
+        area1,
+        area2,
+        time,
     }
 }
 
@@ -170,4 +240,85 @@ fn the_hydraulic_radius_of_a_reach_that_fills(rt: HostRuntime) {
     assert_eq!(rt; table.radius(1_005_000), 333_887);
     assert_eq!(rt; table.radius(1_004_939), 333_880);
     assert_eq!(rt; table.radius(1_009_449), 334_377);
+}
+
+#[test]
+fn inertia_by_the_kind_of_damping(rt: HostRuntime) {
+    let pipes = pipes(&rt);
+    let fixed = short_step(400_000, 500_000);
+    let none = conduit_share(
+        &lossy(Damping::Zero),
+        &pipes,
+        &fixed,
+        false,
+        800_000,
+        600_000,
+        900_000,
+    );
+    let full = conduit_share(
+        &lossy(Damping::Full),
+        &pipes,
+        &fixed,
+        false,
+        800_000,
+        600_000,
+        900_000,
+    );
+    let fast = conduit_share(
+        &lossy(Damping::Partial),
+        &pipes,
+        &fixed,
+        false,
+        600_000,
+        500_000,
+        1_400_000,
+    );
+    assert_eq!(rt; none, uneven(812_392, 85_825_700, 94_815_400, 31_256));
+    assert_eq!(rt; full, uneven(691_846, 85_825_700, 94_815_400, 32_291));
+    assert_eq!(rt; fast, uneven(811_480, 98_739_000, 99_749_300, 33_265));
+}
+
+#[test]
+fn pipes_without_losses(rt: HostRuntime) {
+    let pipes = pipes(&rt);
+    let fixed = short_step(400_000, 500_000);
+    let sewer = sewer(Damping::Partial, false);
+    let slow = conduit_share(&sewer, &pipes, &fixed, false, 800_000, 600_000, 900_000);
+    let full = conduit_share(
+        &sewer,
+        &pipes,
+        &short_step(900_000, 785_000),
+        false,
+        1_400_000,
+        1_200_000,
+        900_000,
+    );
+    assert_eq!(rt; slow, uneven(824_022, 85_825_700, 94_815_400, 31_159));
+    assert_eq!(rt; full, uneven(962_004, 1_000_000, 1_000_000, 3_518));
+}
+
+#[test]
+fn a_flap_gate_keeps_water_from_running_back(rt: HostRuntime) {
+    let pipes = pipes(&rt);
+    let fixed = short_step(0, 500_000);
+    let free = conduit_share(
+        &sewer(Damping::Partial, false),
+        &pipes,
+        &fixed,
+        true,
+        600_000,
+        800_000,
+        0,
+    );
+    let barred = conduit_share(
+        &sewer(Damping::Partial, true),
+        &pipes,
+        &fixed,
+        true,
+        600_000,
+        800_000,
+        0,
+    );
+    assert_eq!(rt; free, uneven(-115_276, 94_815_400, 85_825_700, 38_374));
+    assert_eq!(rt; barred, uneven(0, 94_815_400, 85_825_700, 39_876));
 }

@@ -2,23 +2,11 @@
 ghost use Rattle.std.specs.Prelude.{◌≡◌, ◌*◌, ◌^◌, pos};
 ghost use Rattle.fixed_num.specs.Ranges.{IsBetween, IsConduitLength, IsFlow, IsTravelTime};
 ghost use Rattle.conduit_flow.specs.Geometry.{IsWet};
-ghost use Rattle.conduit_flow.specs.TravelTime.{flow_speed_of, wave_speed_of, travel_time_of};
+ghost use Rattle.conduit_flow.specs.TravelTime.{wave_speed_of, travel_time_of};
 
 use crate::geometry::Middle;
+use crate::momentum::flow_speed;
 use fixed_num::quo;
-use xsect_tables::celerity;
-
-// The speed of a flow through an area, in µm/s.
-#[tactic(auto, using(fixed_num::proofs::Bounds::casts), unfolding(crate::specs::TravelTime::flow_speed_of))]
-fn flow_speed(flow: i64, area: i64) -> i64
-    requires flow { IsFlow flow }
-    requires area { IsBetween (pos 1) area (pos (10 ^ 11)) }
-    ensures value { result ≡ flow_speed_of flow area }
-    ensures range { IsBetween (pos 0) result (pos 15_240_000) }
-{
-    let speed = quo(flow.unsigned_abs() as i128 * 1_000_000, area as i128);
-    15_240_000_i128.min(speed) as i64
-}
 
 // The speed of a wave that runs with the flow of a barrel, in µm/s.
 #[tactic(auto, using(fixed_num::proofs::Bounds::casts), unfolding(crate::specs::TravelTime::wave_speed_of))]
@@ -26,11 +14,10 @@ fn wave_speed(flow: i64, middle: &Middle) -> i64
     requires flow { IsFlow flow }
     requires middle { IsWet middle.now }
     ensures value { result ≡ wave_speed_of flow middle.now }
-    ensures range { IsBetween (pos 1) result (pos (2 * 10 ^ 15)) }
+    ensures range { IsBetween (pos 1) result (pos (2 * 10 ^ 16)) }
 {
     let speed = flow_speed(flow, middle.area);
-    let wave = celerity(middle.area, middle.width);
-    1_i64.max(speed + wave)
+    1_i64.max(speed + middle.wave)
 }
 
 // The time of such a wave along a length, in ms.

@@ -16,7 +16,8 @@ use Rattle.fixed_num.specs.Lists.{number}
 use Rattle.trial_model.specs.Trial.{SumsOf, inflow_of, outflow_of}
 use Rattle.trial_model.specs.declared.nets.Nets.{Nets}
 use Rattle.trial_model.proofs.SumLemmas.{all_in_all_out}
-use Rattle.continuity.specs.Account.{laterals_at, gain_at, flood_at, change_at, left_by, error_by, outfall_at, error_at, link_change, IsAccount, account_of, Balances}
+use Rattle.continuity.specs.Account.{laterals_at, gain_at, flood_at, change_at, left_by, error_by}
+use Rattle.continuity.specs.Account.{outfall_at, error_at, link_change, IsAccount, account_of, Balances}
 use Rattle.continuity.specs.Parts.{node_part, link_part}
 use Rattle.continuity.specs.StepOf.{IsStepOf}
 use Rattle.continuity.specs.Sums.{plus_of, total_of}

@@ -23,11 +23,13 @@ gain_at after n = gain_of (node_fixed_at after.nodes n) (number after.inflows n)
 -- what floods it
 abbrev pub flood_at : Hydraulics → (after : Nets) → ℕ → ℤ
 flood_at h after n =
-    flood_of (node_law_at h n) (node_fixed_at after.nodes n) (number after.inflows n) (number after.outflows n) (number after.areas n) (number after.read_heads n)
+    flood_of (node_law_at h n) (node_fixed_at after.nodes n)
+    (number after.inflows n) (number after.outflows n) (number after.areas n) (number after.read_heads n)
 
 -- how much more it holds than before
 abbrev pub change_at : Hydraulics → (before after : Nets) → ℕ → ℤ
-change_at h before after n = volume_of (node_law_at h n) (number after.heads n) -ℤ volume_of (node_law_at h n) (number before.heads n)
+change_at h before after n =
+    volume_of (node_law_at h n) (number after.heads n) -ℤ volume_of (node_law_at h n) (number before.heads n)
 
 -- what leaves the network there: an outfall's gain
 abbrev pub left_by : Rule → (gain : ℤ) → ℤ
@@ -43,7 +45,8 @@ abbrev pub outfall_at : Hydraulics → (after : Nets) → ℕ → ℤ
 outfall_at h after n = left_by (node_law_at h n).rule (gain_at after n)
 
 abbrev pub error_at : Hydraulics → (before after : Nets) → ℕ → ℤ
-error_at h before after n = error_by (node_law_at h n).rule (gain_at after n) (flood_at h after n) (change_at h before after n)
+error_at h before after n =
+    error_by (node_law_at h n).rule (gain_at after n) (flood_at h after n) (change_at h before after n)
 
 -- ---- a link
 -- the volume of water in it in a state, and how much more it holds than before
@@ -58,15 +61,17 @@ link_change h before after l = volume_in h after l -ℤ volume_in h before l
 unfoldable pub floods_of : Hydraulics → (after : Nets) → List ℤ
 floods_of h after = list_of (flood_at h after) (law_of h).nodes
 
--- the account of a step of so many ms: half the step times the old and the new lateral inflows of all nodes; what left at
--- outfalls; what flooded; what all nodes and links hold more than before; and the errors of all nodes less what the links hold
--- more
+-- the account of a step of so many ms: half the step times the old and the new lateral inflows of all nodes;
+-- what left at outfalls; what flooded; what all nodes and links hold more than before; and the errors of all
+-- nodes less what the links hold more
 pub record IsAccount (h : Hydraulics) (before after : Nets) (ms : ℤ) (a : StepAccount) : Type 0 where
   pub inflow : a.inflow ≡ int_div ms (pos 2) *ℤ sum_below (laterals_at before after) (law_of h).nodes
   pub outfall : a.outfall ≡ sum_below (outfall_at h after) (law_of h).nodes
   pub flooding : a.flooding ≡ sum_below (flood_at h after) (law_of h).nodes
-  pub storage : a.storage ≡ sum_below (change_at h before after) (law_of h).nodes +ℤ sum_below (link_change h before after) (law_of h).links
-  pub error : a.error ≡ sum_below (error_at h before after) (law_of h).nodes -ℤ sum_below (link_change h before after) (law_of h).links
+  pub storage : a.storage ≡ sum_below (change_at h before after) (law_of h).nodes
+      +ℤ sum_below (link_change h before after) (law_of h).links
+  pub error : a.error ≡ sum_below (error_at h before after) (law_of h).nodes
+      -ℤ sum_below (link_change h before after) (law_of h).links
 
 -- the one account that is such
 unfoldable pub account_of : Hydraulics → (before after : Nets) (ms : ℤ) → StepAccount
@@ -74,8 +79,10 @@ account_of h before after ms = record {
   inflow = int_div ms (pos 2) *ℤ sum_below (laterals_at before after) (law_of h).nodes;
   outfall = sum_below (outfall_at h after) (law_of h).nodes;
   flooding = sum_below (flood_at h after) (law_of h).nodes;
-  storage = sum_below (change_at h before after) (law_of h).nodes +ℤ sum_below (link_change h before after) (law_of h).links;
-  error = sum_below (error_at h before after) (law_of h).nodes -ℤ sum_below (link_change h before after) (law_of h).links;
+  storage = sum_below (change_at h before after) (law_of h).nodes
+      +ℤ sum_below (link_change h before after) (law_of h).links;
+  error =
+      sum_below (error_at h before after) (law_of h).nodes -ℤ sum_below (link_change h before after) (law_of h).links;
 }
 
 -- what came in, less what left at outfalls and what flooded, is what is stored and the error

@@ -9,7 +9,8 @@ use Rattle.trial_model.specs.declared.nets.Nets.{Nets}
 use Rattle.trial_model.specs.Fits.{node_fixed_at}
 use Rattle.fixed_num.specs.Lists.{number}
 
--- what stays the same for a node over the step is its head and its net inflow in the state before, and the step's length
+-- what stays the same for a node over the step is its head and its net inflow in the state before, and the
+-- step's length
 pub record IsFixedOf (before : Nets) (ms : ℤ) (n : ℕ) (fixed : NodeFixed) : Type 0 where
   pub head : fixed.h_old ≡ number before.heads n
   pub net : fixed.net_old ≡ net_of (node_fixed_at before.nodes n) (number before.inflows n) (number before.outflows n)
@@ -21,4 +22,5 @@ pub record IsStepOf (h : Hydraulics) (before after : Nets) (ms : ℤ) : Type 0 w
 
 -- no junction's head is above its top
 pub record IsBelowTops (h : Hydraulics) (nets : Nets) : Type 0 where
-  pub each : (n : ℕ) → n < (law_of h).nodes → (node_law_at h n).rule ≡ JunctionRule → number nets.heads n ≤ℤ (node_law_at h n).top
+  pub each : (n : ℕ) → n < (law_of h).nodes → (node_law_at h n).rule ≡ JunctionRule
+      → number nets.heads n ≤ℤ (node_law_at h n).top

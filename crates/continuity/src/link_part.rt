@@ -17,7 +17,8 @@ use trial_model::Nets;
 pub(crate) fn all_links(law: &HydraulicLaw, before: &Nets, after: &Nets) -> StepAccount
     requires before { HeadsFit (law_of law.now.hydraulics) before.now.heads }
     requires after { HeadsFit (law_of law.now.hydraulics) after.now.heads }
-    ensures value { result ≡ total_of (link_part law.now.hydraulics before.now after.now) (law_of law.now.hydraulics).links }
+    ensures value { result
+        ≡ total_of (link_part law.now.hydraulics before.now after.now) (law_of law.now.hydraulics).links }
     ensures range { FieldsWithin (2 * 10 ^ 23 * (law_of law.now.hydraulics).links) result }
 {
     let mut total = no_account();

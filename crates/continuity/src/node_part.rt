@@ -37,7 +37,8 @@ pub(crate) fn all_nodes(
     requires step { IsStepOf law.now.hydraulics before.now after.now ms }
     requires floods { floods.now ≡ floods_of law.now.hydraulics after.now }
     requires tops { IsBelowTops law.now.hydraulics before.now }
-    ensures value { result ≡ total_of (node_part law.now.hydraulics before.now after.now ms) (law_of law.now.hydraulics).nodes }
+    ensures value { result
+        ≡ total_of (node_part law.now.hydraulics before.now after.now ms) (law_of law.now.hydraulics).nodes }
     ensures range { FieldsWithin (2 * 10 ^ 23 * (law_of law.now.hydraulics).nodes) result }
 {
     let mut total = no_account();
@@ -82,7 +83,8 @@ fn lateral_inflow(before: &[NodeFixed], after: &[NodeFixed], ms: i64, node: u32)
     requires old { IsFlow (node_fixed_at before.now node).lateral }
     requires new { IsFlow (node_fixed_at after.now node).lateral }
     requires length { IsStepLength ms }
-    ensures value { result ≡ int_div ms (pos 2) *ℤ ((node_fixed_at before.now node).lateral +ℤ (node_fixed_at after.now node).lateral) }
+    ensures value { result ≡ int_div ms (pos 2)
+        *ℤ ((node_fixed_at before.now node).lateral +ℤ (node_fixed_at after.now node).lateral) }
     ensures range { IsWithin (10 ^ 19) result }
 {
     let laterals = before[node as usize].lateral + after[node as usize].lateral;

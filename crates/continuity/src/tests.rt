@@ -9,8 +9,8 @@ use crate::sum::plus;
 use net_types::StepAccount;
 use node_update::HeadRule;
 
-// The first ten seconds of a channel between a junction and an outfall: 100 l/s come in at the junction, and 4,932 cm³/s reach
-// the outfall at the end.
+// The first ten seconds of a channel between a junction and an outfall: 100 l/s come in at the junction, and
+// 4,932 cm³/s reach the outfall at the end.
 #[test]
 fn parts_make_the_account_of_a_step(rt: HostRuntime) {
     let junction = rule_part(

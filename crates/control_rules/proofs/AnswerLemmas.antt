@@ -1,5 +1,7 @@
 -- What the places hold in the end is what the definition says.
-use Rattle.std.proofs.Common.{◌≡◌, ◌∙◌, ℕ, zero, suc, ◌+◌, ◌*◌, ◌/◌, ◌%◌, ◌^◌, ◌<◌, ◌≤◌, Bool, true, false, ◌&&◌, ◌||◌, cond, List, [], ◌∷◌, ◌++◌, length, map, take, Option, Some, None, ℤ, pos, negsuc, ◌≤ℤ◌, ◌==◌, refl, sym, ap, arith, find, option_map, is_some, All}
+use Rattle.std.proofs.Common.{◌≡◌, ◌∙◌, ℕ, zero, suc, ◌+◌, ◌*◌, ◌/◌, ◌%◌, ◌^◌, ◌<◌, ◌≤◌, Bool, true, false}
+use Rattle.std.proofs.Common.{◌&&◌, ◌||◌, cond, List, [], ◌∷◌, ◌++◌, length, map, take, Option, Some, None, ℤ}
+use Rattle.std.proofs.Common.{pos, negsuc, ◌≤ℤ◌, ◌==◌, refl, sym, ap, arith, find, option_map, is_some, All}
 use Rattle.std.specs.List.{list_any}
 use Rattle.std.specs.Option.{option_map_or}
 use Rattle.std.specs.Ordering.{int_eq}
@@ -15,11 +17,14 @@ use Rattle.net_types.specs.declared.rules.Action.{Action}
 use Rattle.net_types.specs.declared.rules.Rule.{Rule}
 use Rattle.net_types.specs.Sound.{IsSound}
 use Rattle.control_rules.specs.Conditions.{Conditions}
-use Rattle.control_rules.specs.Places.{is_on, unclaimed, holder, gives_way, claimed, claimed_after, settled, settled_after, list_at, list_taken, rule_at, no_rule, IsAction}
-use Rattle.control_rules.specs.Settings.{Taken, taken_by, outranks, decisive, all_taken, actions_of, setting_after, settings_of}
+use Rattle.control_rules.specs.Places.{is_on, unclaimed, holder, gives_way, claimed, claimed_after, settled}
+use Rattle.control_rules.specs.Places.{settled_after, list_at, list_taken, rule_at, no_rule, IsAction}
+use Rattle.control_rules.specs.Settings.{Taken, taken_by, outranks, decisive, all_taken}
+use Rattle.control_rules.specs.Settings.{actions_of, setting_after, settings_of}
 use Rattle.control_rules.specs.Tests.{is_met}
 use Rattle.control_rules.proofs.DecisiveLemmas.{joined, joined-none, decisive-append, decisive-equal}
-use Rattle.control_rules.proofs.PlaceLemmas.{acts_named, find_holds, gives_way_free, gives_way_held, no_claim, sound_rules}
+use Rattle.control_rules.proofs.PlaceLemmas.{acts_named, find_holds, gives_way_free}
+use Rattle.control_rules.proofs.PlaceLemmas.{gives_way_held, no_claim, sound_rules}
 
 -- two different numbers
 apart : (a b : ℤ) → (a ≡ b → ⊥) → int_eq a b ≡ false

@@ -1,5 +1,7 @@
 -- One step of each walk over actions.
-use Rattle.std.proofs.Common.{◌≡◌, ◌≢◌, ◌∙◌, ℕ, suc, ◌+◌, ◌*◌, ◌/◌, ◌%◌, ◌<◌, Bool, true, false, ◌&&◌, ◌||◌, cond, List, [], ◌∷◌, length, take, get_or, set, Option, Some, None, ℤ, pos, negsuc, ◌≤ℤ◌, ◌==◌, refl, sym, ap, subst, arith, get_or-set_same, get_or-set_other, find, All}
+use Rattle.std.proofs.Common.{◌≡◌, ◌≢◌, ◌∙◌, ℕ, suc, ◌+◌, ◌*◌, ◌/◌, ◌%◌, ◌<◌, Bool, true, false, ◌&&◌, ◌||◌, cond}
+use Rattle.std.proofs.Common.{List, [], ◌∷◌, length, take, get_or, set, Option, Some, None, ℤ, pos, negsuc, ◌≤ℤ◌}
+use Rattle.std.proofs.Common.{◌==◌, refl, sym, ap, subst, arith, get_or-set_same, get_or-set_other, find, All}
 use Rattle.std.specs.List.{list_any}
 use Rattle.std.specs.Option.{option_map_or, option_or}
 use Rattle.std.specs.Ordering.{int_eq}
@@ -14,7 +16,8 @@ use Rattle.net_types.specs.declared.rules.Action.{Action}
 use Rattle.net_types.specs.declared.rules.Rule.{Rule}
 use Rattle.net_types.specs.declared.project.Project.{Project}
 use Rattle.net_types.specs.Sound.{IsSound}
-use Rattle.control_rules.specs.Places.{is_on, claimed, settled, gives_way, rule_at, list_at, no_rule, unclaimed, holder, IsPlace, IsAction, IsRule}
+use Rattle.control_rules.specs.Places.{is_on, claimed, settled, gives_way, rule_at, list_at}
+use Rattle.control_rules.specs.Places.{no_rule, unclaimed, holder, IsPlace, IsAction, IsRule}
 use Rattle.control_rules.specs.Settings.{outranks}
 
 -- a walk that has seen no action yet

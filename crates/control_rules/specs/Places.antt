@@ -1,5 +1,6 @@
 -- Words of the proofs alone: what stands in the places of the links while the rules are gone through.
-use Rattle.std.specs.Prelude.{◌≡◌, ◌≢◌, ℕ, zero, suc, ◌+◌, ◌-◌, ◌*◌, ◌/◌, ◌%◌, ◌^◌, ◌<◌, ◌==◌, Bool, true, ◌&&◌, if◌then◌else◌, List, [], None, slice_index_or, ℤ, pos, negsuc, neg_ℤ, unsigned_abs}
+use Rattle.std.specs.Prelude.{◌≡◌, ◌≢◌, ℕ, zero, suc, ◌+◌, ◌-◌, ◌*◌, ◌/◌, ◌%◌, ◌^◌, ◌<◌, ◌==◌, Bool, true, ◌&&◌}
+use Rattle.std.specs.Prelude.{if◌then◌else◌, List, [], None, slice_index_or, ℤ, pos, negsuc, neg_ℤ, unsigned_abs}
 use Rattle.std.specs.List.{All, find, list_any}
 use Rattle.std.specs.Option.{option_map_or}
 use Rattle.std.specs.Ordering.{int_eq}
@@ -30,7 +31,8 @@ rule_at rules k = slice_index_or rules k no_rule
 
 -- the list of actions of a number: rule k has the lists 2 k, after THEN, and 2 k + 1, after ELSE
 abbrev pub list_at : List Rule → ℕ → List Action
-list_at rules list = if list % 2 == 0 then (rule_at rules (list / 2)).then_acts else (rule_at rules (list / 2)).else_acts
+list_at rules list =
+    if list % 2 == 0 then (rule_at rules (list / 2)).then_acts else (rule_at rules (list / 2)).else_acts
 
 -- the number of the list that a rule takes
 abbrev pub list_taken : List Node → Conditions → List Rule → ℕ → ℕ
@@ -58,7 +60,8 @@ is_on link action = action.link == link
 
 -- the place of a link after these actions of a list have claimed what gives way to them
 unfoldable pub claimed : List Rule → (list : ℕ) → List Action → (link : ℕ) → (place : ℤ) → ℤ
-claimed rules list acts link place = if list_any (is_on link) acts && gives_way rules list place then negsuc list else place
+claimed rules list acts link place =
+    if list_any (is_on link) acts && gives_way rules list place then negsuc list else place
 
 -- the place of a link after the first so many rules
 abbrev pub claimed_after : List Node → Conditions → List Rule → (link : ℕ) → (count : ℕ) → ℤ

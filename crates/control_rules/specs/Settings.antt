@@ -1,6 +1,7 @@
 -- The settings that the rules of a project give (User's Manual, section [CONTROLS]; which of several actions on a link
 -- counts is this project's profile).
-use Rattle.std.specs.Prelude.{◌≡◌, ℕ, ◌<◌, ◌==◌, Bool, true, false, if◌then◌else◌, List, [], ◌∷◌, length, map, slice_get, Option, Some, None, ℤ, int_lt}
+use Rattle.std.specs.Prelude.{◌≡◌, ℕ, ◌<◌, ◌==◌, Bool, true, false, if◌then◌else◌, List, []}
+use Rattle.std.specs.Prelude.{◌∷◌, length, map, slice_get, Option, Some, None, ℤ, int_lt}
 use Rattle.std.specs.List.{flat_map}
 use Rattle.std.specs.Option.{option_map_or}
 use Rattle.fixed_num.specs.Lists.{list_of, number}
@@ -33,8 +34,8 @@ outranks None b = false
 outranks (Some a) None = true
 outranks (Some a) (Some b) = int_lt b a
 
--- the action at a place decides on a link: it is on the link, no action on the link outranks it, and it outranks each one
--- on the link that stands before it
+-- the action at a place decides on a link: it is on the link, no action on the link outranks it, and it
+-- outranks each one on the link that stands before it
 pub record IsDecisive (taken : List Taken) (link : ℕ) (one : Taken) : Type 0 where
   pub place : ℕ
   pub stands : slice_get taken place ≡ Some one
@@ -52,7 +53,8 @@ stronger one (Some later) = if outranks later.priority one.priority then later e
 -- the action that decides on a link: the first of the greatest priority among those on it
 abbrev pub decisive : List Taken → (link : ℕ) → Option Taken
 decisive [] link = None
-decisive (one ∷ later) link = if one.action.link == link then Some (stronger one (decisive later link)) else decisive later link
+decisive (one ∷ later) link =
+    if one.action.link == link then Some (stronger one (decisive later link)) else decisive later link
 
 -- the setting of a link after the rules: that of the action which decides on it, else the one that it has
 unfoldable pub setting_after : List Node → List Rule → Conditions → (link : ℕ) → ℤ

@@ -8,7 +8,8 @@ use Rattle.net_types.specs.declared.rules.Relation.{Relation}
 use Rattle.net_types.specs.declared.rules.Relation.TheVariants.{Eq, Ne, Lt, Le, Gt, Ge}
 use Rattle.net_types.specs.declared.rules.Rule.{Rule}
 use Rattle.net_types.specs.declared.rules.Subject.{Subject}
-use Rattle.net_types.specs.declared.rules.Subject.TheVariants.{NodeDepth, NodeHead, NodeInflow, LinkFlow, LinkSetting, Elapsed, ClockTime, Month, Weekday}
+use Rattle.net_types.specs.declared.rules.Subject.TheVariants.{NodeDepth, NodeHead, NodeInflow, LinkFlow}
+use Rattle.net_types.specs.declared.rules.Subject.TheVariants.{LinkSetting, Elapsed, ClockTime, Month, Weekday}
 use Rattle.net_types.specs.declared.rules.Test.{Test}
 use Rattle.net_types.specs.Records.{node_at}
 use Rattle.control_rules.specs.Conditions.{Conditions}

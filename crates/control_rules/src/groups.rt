@@ -5,7 +5,8 @@ ghost use Rattle.std.specs.List.{All, list_any};
 ghost use Rattle.net_types.specs.Records.{node_at};
 ghost use Rattle.net_types.specs.Sound.{SubjectNames, TestNames};
 ghost use Rattle.control_rules.specs.Conditions.{conditions_of, Fit};
-ghost use Rattle.control_rules.specs.Tests.{compares as compares_by, value_of as value_of_subject, is_true as is_true_test, is_met as is_met_rule};
+ghost use Rattle.control_rules.specs.Tests.{compares as compares_by, value_of as value_of_subject};
+ghost use Rattle.control_rules.specs.Tests.{is_true as is_true_test, is_met as is_met_rule};
 
 use crate::facts::Facts;
 use net_types::{List, Project, Relation, Rule, Subject, Test};

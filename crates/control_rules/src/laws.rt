@@ -4,8 +4,10 @@ ghost use Rattle.control_rules.specs.Settings.{Taken, IsDecisive, decisive};
 /// Law: the action that decides on a link is the first of the greatest priority among all on it, and none decides only
 /// where none is on it.
 pub fn greatest_priority_decides()
-    ensures first { (taken : List Taken) (link : ℕ) (one : Taken) → decisive taken link ≡ Some one → IsDecisive taken link one }
-    ensures alone { (taken : List Taken) (link : ℕ) (one : Taken) → IsDecisive taken link one → decisive taken link ≡ Some one }
+    ensures first { (taken : List Taken) (link : ℕ) (one : Taken)
+        → decisive taken link ≡ Some one → IsDecisive taken link one }
+    ensures alone { (taken : List Taken) (link : ℕ) (one : Taken)
+        → IsDecisive taken link one → decisive taken link ≡ Some one }
     ensures without { (taken : List Taken) (link : ℕ) → decisive taken link ≡ None
         → (k : ℕ) (one : Taken) → slice_get taken k ≡ Some one → one.action.link ≢ link }
 {}

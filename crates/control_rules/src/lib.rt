@@ -2,8 +2,8 @@
 //!
 //! The contract that matters is that of [`settings_after`]: of all actions on a link that the rules take, the first of
 //! the greatest priority gives its setting, and a link without one keeps the setting that it has (`specs/Settings`).
-//! When a test is true stands in `specs/Tests`, what the tests look at in `specs/Conditions`. No memory is taken, and each
-//! test is made at most once, each action looked at at most twice.
+//! When a test is true stands in `specs/Tests`, what the tests look at in `specs/Conditions`. No memory is
+//! taken, and each test is made at most once, each action looked at at most twice.
 #![tactic(auto)]
 
 mod facts;

@@ -5,7 +5,10 @@ ghost use Rattle.std.specs.List.{All};
 ghost use Rattle.fixed_num.specs.Lists.{number};
 ghost use Rattle.net_types.specs.Sound.{IsSound};
 ghost use Rattle.control_rules.specs.Conditions.{conditions_of, Fit};
-ghost use Rattle.control_rules.specs.Places.{unclaimed as unclaimed_place, IsPlace, IsAction, list_at as list_at_number, list_taken as list_taken_by, gives_way as gives_way_to, claimed, claimed_after, settled, settled_after};
+ghost use Rattle.control_rules.specs.Places.{unclaimed as unclaimed_place, IsPlace, IsAction};
+ghost use Rattle.control_rules.specs.Places.{list_at as list_at_number, list_taken as list_taken_by};
+ghost use Rattle.control_rules.specs.Places.{gives_way as gives_way_to, claimed, claimed_after};
+ghost use Rattle.control_rules.specs.Places.{settled, settled_after};
 ghost use Rattle.control_rules.specs.Settings.{outranks as outranks_priority};
 
 use crate::facts::Facts;
@@ -33,7 +36,8 @@ pub(crate) fn claim_links(project: &Project, facts: &Facts, places: &mut [i64])
     requires clear { (link : ℕ) → link < length places.old → number places.old link ≡ unclaimed_place }
     ensures each { (link : ℕ) → link < length places.old → number places.new link
         ≡ claimed_after project.now.nodes (conditions_of facts.now) project.now.rules link (length project.now.rules) }
-    ensures valid { (link : ℕ) → link < length places.old → IsPlace (length project.now.rules) (number places.new link) }
+    ensures valid { (link : ℕ) → link < length places.old
+        → IsPlace (length project.now.rules) (number places.new link) }
 {
     let rules = project.rules.as_slice();
     for rule in 0..rules.len() {
@@ -168,7 +172,8 @@ fn settle_link(list: usize, action: &Action, places: &mut [i64])
 pub(crate) fn restore(settings: &[i64], places: &mut [i64])
     requires { length places.old ≡ length settings.now }
     ensures { (link : ℕ) → link < length places.old → number places.new link
-        ≡ (if int_eq (number places.old link) unclaimed_place then number settings.now link else number places.old link) }
+        ≡ (if int_eq (number places.old link) unclaimed_place
+        then number settings.now link else number places.old link) }
 {
     for link in 0..places.len() {
         if places[link] == UNCLAIMED {

@@ -1,5 +1,6 @@
 -- What a source over memory gives is the front of what was left.
-use Rattle.std.proofs.Common.{◌≡◌, ℕ, ◌+◌, ◌-◌, ◌≤◌, ◌<◌, List, [], ◌++◌, length, min, take, drop, sym, ap, ◌∙◌, length-append, length-drop, length-take-le, drop-drop, arith}
+use Rattle.std.proofs.Common.{◌≡◌, ℕ, ◌+◌, ◌-◌, ◌≤◌, ◌<◌, List, [], ◌++◌, length, min, take, drop, sym}
+use Rattle.std.proofs.Common.{ap, ◌∙◌, length-append, length-drop, length-take-le, drop-drop, arith}
 use Rattle.std.proofs.lemmas.List.{take-append-le, take-append-drop, take_all, nil_from_length}
 use Rattle.fault_ports.proofs.OutputLemmas.{whole_rest}
 

@@ -1,5 +1,6 @@
 -- Bytes that are put in parts: the parts together are put as one piece would be.
-use Rattle.std.proofs.Common.{◌≡◌, ℕ, ◌+◌, ◌-◌, ◌≤◌, ◌<◌, List, ◌++◌, length, get_or, suc, take, drop, Option, Result, Ok, Err, sym, ap, ◌∙◌, length-append, drop-cons, length-drop, subst, arith}
+use Rattle.std.proofs.Common.{◌≡◌, ℕ, ◌+◌, ◌-◌, ◌≤◌, ◌<◌, List, ◌++◌, length, get_or, suc, take, drop, Option}
+use Rattle.std.proofs.Common.{Result, Ok, Err, sym, ap, ◌∙◌, length-append, drop-cons, length-drop, subst, arith}
 use Rattle.std.proofs.lemmas.List.{take-append-le, take-append-drop, take_all}
 use Rattle.std.proofs.lemmas.Grind.{flat_map-append}
 use Rattle.std.proofs.Math.Seq.{take-add, take-append-add}

@@ -28,7 +28,12 @@ impl<'a, R: Files> Model for FileSource<'a, R> {
 
     ghost Value = { FileState };
 
-    ghost view = { λ s. record { name = s.name; is_open = has_file s.file; told = told_by R.File.remaining s.file; faults = s.faults } };
+    ghost view = { λ s. record {
+      name = s.name;
+      is_open = has_file s.file;
+      told = told_by R.File.remaining s.file;
+      faults = s.faults;
+    } };
 }
 
 impl<'a, R: Files> FileSource<'a, R> {
@@ -137,7 +142,12 @@ impl<'a, R: Files> Model for FileSink<'a, R> {
 
     ghost Value = { FileState };
 
-    ghost view = { λ s. record { name = s.name; is_open = has_file s.file; told = told_by R.File.contents s.file; faults = s.faults } };
+    ghost view = { λ s. record {
+      name = s.name;
+      is_open = has_file s.file;
+      told = told_by R.File.contents s.file;
+      faults = s.faults;
+    } };
 }
 
 impl<'a, R: Files> FileSink<'a, R> {

@@ -1,8 +1,9 @@
 // Ports over memory, which fail where they are told to.
-ghost use Rattle.std.specs.Prelude.{◌≡◌, ◌+◌, ◌++◌, ◌-◌, ◌<◌, ◌≤◌, ◌↔◌, ◌⊎◌, [], Some, false, min, length, take, drop, IfOk, OnOk, OnErr, IsErr, IsTrue};
+ghost use Rattle.std.specs.Prelude.{◌≡◌, ◌+◌, ◌++◌, ◌-◌, ◌<◌, ◌≤◌, ◌↔◌, ◌⊎◌, [], Some, false};
+ghost use Rattle.std.specs.Prelude.{min, length, take, drop, IfOk, OnOk, OnErr, IsErr, IsTrue};
 ghost use Rattle.std.specs.Io.KnownBytes.{ReadConsumes, WriteAppends};
-ghost use Rattle.fault_ports.specs.Causes.{HasCause, no_faults, one_more, with_fault, without_fault};
-ghost use Rattle.fault_ports.specs.Memory.{is_chosen};
+ghost use Rattle.fault_ports.specs.Causes.{HasCause, one_more, with_fault, without_fault};
+ghost use Rattle.fault_ports.specs.Memory.{empty_sink, failed_sink, failed_source, fresh_source, is_chosen};
 
 use crate::faults::{Failed, Faults};
 use crate::ports::{Sink, Source};
@@ -28,7 +29,13 @@ impl Model for MemSource {
 
     ghost Value = { SourceState };
 
-    ghost view = { λ s. record { left = drop s.at s.bytes; fails = s.fails; most = s.most; calls = s.calls; faults = s.faults } };
+    ghost view = { λ s. record {
+      left = drop s.at s.bytes;
+      fails = s.fails;
+      most = s.most;
+      calls = s.calls;
+      faults = s.faults;
+    } };
 
     ghost invariant = { λ s. s.at ≤ length s.bytes × 1 ≤ s.most };
 }
@@ -37,7 +44,7 @@ impl MemSource {
     /// A source that has these bytes left. It takes no memory.
     pub fn new(bytes: Text, fails: List<u64>, most: usize) -> MemSource
         requires { 1 ≤ most }
-        ensures { result ≡ record { left = bytes; fails = fails; most = most; calls = 0; faults = no_faults } }
+        ensures { result ≡ fresh_source bytes fails most }
     {
         MemSource {
             bytes,
@@ -70,7 +77,7 @@ impl Source for MemSource {
 
         // The calls that fail are the chosen ones.
         ensures fails { IsErr result ↔ IsTrue (is_chosen self.new.calls self.old.fails) }
-        ensures failed { OnErr result (self.new ≡ record self.old { calls = one_more self.old.calls; faults = with_fault self.old.faults }) }
+        ensures failed { OnErr result (self.new ≡ failed_source self.old) }
         ensures failed_buffer { OnErr result (buf.new ≡ buf.old) }
 
         // Every other call gives as many bytes as it may.
@@ -114,7 +121,14 @@ impl Model for MemSink {
 
     ghost Value = { SinkState };
 
-    ghost view = { λ s. record { held = s.bytes.items; room = s.room; fails = s.fails; most = s.most; calls = s.calls; faults = s.faults } };
+    ghost view = { λ s. record {
+      held = s.bytes.items;
+      room = s.room;
+      fails = s.fails;
+      most = s.most;
+      calls = s.calls;
+      faults = s.faults;
+    } };
 
     ghost invariant = { λ s. vec_len s.bytes + s.room ≤ vec_capacity s.bytes × 1 ≤ s.most };
 }
@@ -128,7 +142,7 @@ impl MemSink {
         most: usize,
     ) -> Result<MemSink, OutOfMemory>
         requires { 1 ≤ most }
-        ensures { IfOk result (λ sink. sink ≡ record { held = []; room = room; fails = fails; most = most; calls = 0; faults = no_faults }) }
+        ensures { IfOk result (λ sink. sink ≡ empty_sink room fails most) }
     {
         let bytes = Vec::with_capacity(alloc, room)?;
         Ok(MemSink {
@@ -162,8 +176,9 @@ impl Sink for MemSink {
         ensures answered { OnOk result (self.new.faults.failed ≡ false) }
 
         // The calls that fail are the chosen ones and those without room.
-        ensures fails { IsErr result ↔ (IsTrue (is_chosen self.new.calls self.old.fails) ⊎ ((self.old.room ≡ 0) × (0 < length piece.now))) }
-        ensures failed { OnErr result (self.new ≡ record self.old { calls = one_more self.old.calls; faults = with_fault self.old.faults }) }
+        ensures fails { IsErr result
+            ↔ (IsTrue (is_chosen self.new.calls self.old.fails) ⊎ ((self.old.room ≡ 0) × (0 < length piece.now))) }
+        ensures failed { OnErr result (self.new ≡ failed_sink self.old) }
 
         // Every other call accepts as many bytes as it may.
         ensures count { IfOk result (λ count. count ≡ min self.old.most (min (length piece.now) self.old.room)) }

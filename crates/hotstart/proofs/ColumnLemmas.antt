@@ -1,11 +1,13 @@
 -- Lists of what stands at so many places.
-use Rattle.std.proofs.Common.{◌≡◌, ◌∙◌, ℕ, zero, suc, ◌+◌, ◌*◌, ◌≤◌, Bool, true, false, cond, List, [], ◌∷◌, ◌++◌, length, map, refl, sym, ap, arith}
+use Rattle.std.proofs.Common.{◌≡◌, ◌∙◌, ℕ, zero, suc, ◌+◌, ◌*◌, ◌≤◌, Bool, true, false}
+use Rattle.std.proofs.Common.{cond, List, [], ◌∷◌, ◌++◌, length, map, refl, sym, ap, arith}
 use Rattle.std.specs.List.{range_with_len}
 use Rattle.fixed_num.specs.Lists.{list_of}
 use Rattle.net_types.specs.declared.options.InfilKind.{InfilKind}
 use Rattle.net_types.specs.declared.options.InfilKind.TheVariants.{ModifiedHorton, CurveNumber}
 use Rattle.hotstart.specs.Checks.{IsGoodFile}
-use Rattle.hotstart.specs.Layout.{Field, widths, times, magic, counts, head_fields, link_fields, least_fields, sub_fields, net_values, new_fields, rest_of, layout_of, is_old}
+use Rattle.hotstart.specs.Layout.{Field, widths, times, magic, counts, head_fields, link_fields, least_fields}
+use Rattle.hotstart.specs.Layout.{sub_fields, net_values, new_fields, rest_of, layout_of, is_old}
 use Rattle.hotstart.specs.Reading.{sub_width}
 use Rattle.hotstart.specs.declared.shape.Shape.{Shape}
 

@@ -1,5 +1,7 @@
 -- Two states with equal bytes are equal.
-use Rattle.std.proofs.Common.{◌≡◌, ◌∙◌, ℕ, zero, suc, ◌*◌, ◌^◌, ◌<◌, ◌≤◌, List, [], ◌∷◌, ◌++◌, length, map, ℤ, pos, ◌≤ℤ◌, FitsSigned, All, refl, sym, ap, subst, arith, append_assoc, zip, flat_map, length-append, codes}
+use Rattle.std.proofs.Common.{◌≡◌, ◌∙◌, ℕ, zero, suc, ◌*◌, ◌^◌, ◌<◌, ◌≤◌, List, [], ◌∷◌, ◌++◌}
+use Rattle.std.proofs.Common.{length, map, ℤ, pos, ◌≤ℤ◌, FitsSigned, All, refl, sym, ap, subst}
+use Rattle.std.proofs.Common.{arith, append_assoc, zip, flat_map, length-append, codes}
 use Rattle.std.specs.Int.{w64, cast_signed, cast_unsigned}
 use Rattle.std.proofs.lemmas.Int.{ints, to_z-of_z, clamps}
 use Rattle.std.proofs.lemmas.List.{append_cancel_left}
@@ -10,7 +12,8 @@ use Rattle.infiltration.specs.declared.states.InfilState.{InfilState}
 use Rattle.infiltration.specs.declared.states.InfilState.TheVariants.{Horton, Number}
 use Rattle.net_types.specs.declared.options.InfilKind.{InfilKind}
 use Rattle.net_types.specs.declared.options.InfilKind.TheVariants.{ModifiedHorton, CurveNumber}
-use Rattle.hotstart.specs.HotBytes.{count_bytes, value_bytes, link_bytes, sub_bytes, kept, kind_number, header, hot_bytes}
+use Rattle.hotstart.specs.HotBytes.{count_bytes, value_bytes, link_bytes, sub_bytes}
+use Rattle.hotstart.specs.HotBytes.{kept, kind_number, header, hot_bytes}
 use Rattle.hotstart.specs.HotRanges.{IsHotState, IsHotSub, IsKept, IsKeptSub, IsStateOf, infil_numbers}
 use Rattle.hotstart.specs.declared.state.HotState.{HotState}
 use Rattle.hotstart.specs.declared.state.HotSub.{HotSub}

@@ -5,7 +5,8 @@ use Rattle.net_types.specs.declared.options.InfilKind.{InfilKind}
 use Rattle.net_types.specs.declared.project.Project.{Project}
 use Rattle.hotstart.specs.Checks.{IsGoodFile}
 use Rattle.hotstart.specs.Layout.{value_at, is_old, layout_of, file_fault}
-use Rattle.hotstart.specs.Reading.{reading_of, answer_for, answer_or, old_state, new_state, shape_of, column, sub_at, sub_width}
+use Rattle.hotstart.specs.Reading.{reading_of, answer_for, answer_or, old_state}
+use Rattle.hotstart.specs.Reading.{new_state, shape_of, column, sub_at, sub_width}
 use Rattle.hotstart.specs.declared.read.HotRead.{HotRead}
 use Rattle.hotstart.specs.declared.read.HotRead.TheVariants.{Good}
 use Rattle.hotstart.specs.declared.refusal.Refusal.{Refusal}

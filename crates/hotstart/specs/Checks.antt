@@ -30,7 +30,8 @@ pub record IsGoodFile (file : List ℕ) (fields : List Field) : Type 0 where
   pub whole : widths fields ≡ length file
 
 abbrev pub PassesFile : List ℕ → List Field → Result (Unit {0}) Refusal → Type 0
-PassesFile file fields result = MatchResult result (λ _. IsGoodFile file fields) (λ refusal. file_fault file fields ≡ Some refusal)
+PassesFile file fields result =
+    MatchResult result (λ _. IsGoodFile file fields) (λ refusal. file_fault file fields ≡ Some refusal)
 
 -- the counts of a project are within the limits
 pub record IsShape (shape : Shape) : Type 0 where

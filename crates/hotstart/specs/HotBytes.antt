@@ -1,7 +1,7 @@
 -- The bytes of a hotstart file of version 2 (this project's profile): `SWMMFXH2`, the counts of nodes, links and
--- subcatchments and the kind of infiltration in 4 bytes each, and then values in 8 bytes each: the heads, the flow and the
--- setting of each link, the least travel time, and for each subcatchment three depths, the flow and the numbers of its
--- infiltration. The lowest byte of a number comes first.
+-- subcatchments and the kind of infiltration in 4 bytes each, and then values in 8 bytes each: the heads, the
+-- flow and the setting of each link, the least travel time, and for each subcatchment three depths, the flow
+-- and the numbers of its infiltration. The lowest byte of a number comes first.
 use Rattle.std.specs.Prelude.{ℕ, ◌^◌, List, [], ◌∷◌, ◌++◌, length, map, codes, ℤ, pos}
 use Rattle.std.specs.Int.{int_min, cast_unsigned, w64}
 use Rattle.std.specs.List.{flat_map, zip}
@@ -34,7 +34,8 @@ unfoldable pub kept : ℤ → ℤ
 kept value = int_min value (pos (10 ^ 15))
 
 abbrev pub sub_row : HotSub → List ℤ
-sub_row sub = kept (number sub.depths 0) ∷ kept (number sub.depths 1) ∷ kept (number sub.depths 2) ∷ sub.flow ∷ map kept (infil_numbers sub.infil)
+sub_row sub = kept (number sub.depths 0) ∷ kept (number sub.depths 1) ∷
+    kept (number sub.depths 2) ∷ sub.flow ∷ map kept (infil_numbers sub.infil)
 
 abbrev pub sub_bytes : HotSub → List ℕ
 sub_bytes sub = flat_map value_bytes (sub_row sub)
@@ -46,5 +47,6 @@ header state = codes "SWMMFXH2" ++ flat_map count_bytes
 
 -- the whole file
 unfoldable pub hot_bytes : HotState → List ℕ
-hot_bytes state = header state ++ flat_map value_bytes state.heads ++ flat_map link_bytes (zip state.flows state.settings)
+hot_bytes state =
+    header state ++ flat_map value_bytes state.heads ++ flat_map link_bytes (zip state.flows state.settings)
     ++ (value_bytes state.least ++ flat_map sub_bytes state.subs)

@@ -36,9 +36,9 @@ pub record IsHotSub (kind : InfilKind) (sub : HotSub) : Type 0 where
   pub flow : IsRunoff sub.flow
   pub kind_is : IsStateOf kind sub.infil
 
--- a state that can be written: as many settings as flows, counts within the limits, heads, flows, settings and the least
--- travel time in their ranges, and each infiltration of the state's kind, which is modified Horton where there is no
--- subcatchment
+-- a state that can be written: as many settings as flows, counts within the limits, heads, flows, settings and
+-- the least travel time in their ranges, and each infiltration of the state's kind, which is modified Horton
+-- where there is no subcatchment
 pub record IsHotState (state : HotState) : Type 0 where
   pub few_nodes : length state.heads ≤ RECORD_LIMIT
   pub few_links : length state.flows ≤ RECORD_LIMIT

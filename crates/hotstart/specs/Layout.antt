@@ -1,5 +1,7 @@
 -- The fields of a hotstart file, and its first fault (this project's profile).
-use Rattle.std.specs.Prelude.{ℕ, zero, suc, ◌+◌, ◌*◌, ◌^◌, ◌==◌, Bool, ◌||◌, ◌&&◌, nat_lt, if◌then◌else◌, List, [], ◌∷◌, ◌++◌, length, drop, map, slice_index, codes, Option, Some, None, ℤ, pos, neg_ℤ, int_le}
+use Rattle.std.specs.Prelude.{ℕ, zero, suc, ◌+◌, ◌*◌, ◌^◌, ◌==◌, Bool, ◌||◌, ◌&&◌, nat_lt}
+use Rattle.std.specs.Prelude.{if◌then◌else◌, List, [], ◌∷◌, ◌++◌, length, drop, map}
+use Rattle.std.specs.Prelude.{slice_index, codes, Option, Some, None, ℤ, pos, neg_ℤ, int_le}
 use Rattle.std.specs.Int.{cast_signed, w64}
 use Rattle.std.specs.Option.{option_or}
 use Rattle.byteorder.specs.Endian.{little_number}
@@ -10,8 +12,9 @@ use Rattle.hotstart.specs.declared.refusal.Refusal.{Refusal}
 use Rattle.hotstart.specs.declared.shape.Shape.{Shape}
 use Rattle.hotstart.specs.declared.refusal.Refusal.TheVariants.{BadMagic, Ends, Count, Kind, BadValue, GoesOn}
 
--- a field: a byte of the magic word; its last byte, the version, which is `1` or `2`; a count by its number, which is to be
--- this one; a kind of infiltration, which is to be this one; a value, which is to lie within these
+-- a field: a byte of the magic word; its last byte, the version, which is `1` or `2`; a count by its number,
+-- which is to be this one; a kind of infiltration, which is to be this one; a value, which is to lie within
+-- these
 pub data Field : Type 0 where
   letter : (byte : ℕ) → Field
   version : Field
@@ -46,7 +49,8 @@ number_fault version place number = if number == 49 || number == 50 then None el
 number_fault (count what own) place number = if number == own then None else Some (Count what number own)
 number_fault (kind own) place number = if number == own then None else Some (Kind number own)
 number_fault (value least most) place number =
-    if int_le least (cast_signed w64 number) && int_le (cast_signed w64 number) most then None else Some (BadValue place)
+    if int_le least (cast_signed w64 number) && int_le (cast_signed w64 number) most
+    then None else Some (BadValue place)
 
 -- what is wrong with a field of a file: the file ends before it is whole, or its number is wrong
 abbrev pub field_fault : List ℕ → (place : ℕ) → Field → Option Refusal
@@ -56,7 +60,8 @@ field_fault file place field = if nat_lt (length file) (place + width field) the
 -- the first fault of fields that stand one after the other from a place
 abbrev pub first_fault : List ℕ → (place : ℕ) → List Field → Option Refusal
 first_fault file place [] = None
-first_fault file place (field ∷ fields) = option_or (field_fault file place field) (first_fault file (place + width field) fields)
+first_fault file place (field ∷ fields) =
+    option_or (field_fault file place field) (first_fault file (place + width field) fields)
 
 -- the first fault of a file that is to have these fields and nothing after them
 abbrev pub file_fault : List ℕ → List Field → Option Refusal

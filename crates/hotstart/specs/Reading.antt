@@ -1,9 +1,9 @@
 -- What a hotstart file is read as (this project's profile).
-use Rattle.std.specs.Prelude.{ℕ, ◌+◌, ◌*◌, if◌then◌else◌, List, [], ◌∷◌, length, map, Option, Some, None, IfSome, ℤ, pos}
-use Rattle.std.specs.List.{All}
+use Rattle.std.specs.Prelude.{ℕ, ◌+◌, ◌*◌, if◌then◌else◌, List, [], ◌∷◌}
+use Rattle.std.specs.Prelude.{length, map, Option, Some, None, ℤ, pos}
 use Rattle.std.specs.Option.{option_map_or}
 use Rattle.fixed_num.specs.Lists.{list_of}
-use Rattle.infiltration.specs.Infiltration.{IsInfil, start_of}
+use Rattle.infiltration.specs.Infiltration.{start_of}
 use Rattle.infiltration.specs.declared.states.InfilState.{InfilState}
 use Rattle.infiltration.specs.declared.states.InfilState.TheVariants.{Horton, Number}
 use Rattle.net_types.specs.declared.hydrology.Sub.{Sub}
@@ -14,7 +14,9 @@ use Rattle.hotstart.specs.Layout.{value_at, is_old, layout_of, file_fault}
 use Rattle.hotstart.specs.declared.read.HotRead.{HotRead}
 use Rattle.hotstart.specs.declared.read.HotRead.TheVariants.{Good, BadMagic, Ends, Count, Kind, BadValue, GoesOn}
 use Rattle.hotstart.specs.declared.refusal.Refusal.{Refusal}
-use Rattle.hotstart.specs.declared.refusal.Refusal.TheVariants.{BadMagic as BadMagicAt, Ends as EndsAt, Count as CountOf, Kind as KindOf, BadValue as BadValueAt, GoesOn as GoesOnAt}
+use Rattle.hotstart.specs.declared.refusal.Refusal.TheVariants.{BadMagic as BadMagicAt, Ends as EndsAt}
+use Rattle.hotstart.specs.declared.refusal.Refusal.TheVariants.{Count as CountOf, Kind as KindOf}
+use Rattle.hotstart.specs.declared.refusal.Refusal.TheVariants.{BadValue as BadValueAt, GoesOn as GoesOnAt}
 use Rattle.hotstart.specs.declared.shape.Shape.{Shape}
 use Rattle.hotstart.specs.declared.state.HotState.{HotState}
 use Rattle.hotstart.specs.declared.state.HotSub.{HotSub}
@@ -68,7 +70,8 @@ start_sub sub = record {
   infil = option_map_or start_of sub.infil (Horton (record { above = pos 0 }));
 }
 
--- the state in a file of version 1: its least travel time is 0, and its subcatchments are as at a start without a hotstart
+-- the state in a file of version 1: its least travel time is 0, and its subcatchments are as at a start without
+-- a hotstart
 abbrev pub old_state : Project → List ℕ → HotState
 old_state project file = record {
   kind = kind_of project.subs project.options.infil;
@@ -109,8 +112,5 @@ answer_or (Some refusal) state = answer_for refusal
 -- what a file is read as for a project: the first fault of its fields, else the state in it
 unfoldable pub reading_of : Project → List ℕ → HotRead
 reading_of project file =
-    answer_or (file_fault file (layout_of (shape_of project) file)) (if is_old file then old_state project file else new_state project file)
-
--- the infiltration of each subcatchment, where there is one, is in its ranges
-abbrev pub HasInfiltrations : Project → Type 0
-HasInfiltrations project = All (λ (sub : Sub). IfSome sub.infil IsInfil) project.subs
+    answer_or (file_fault file (layout_of (shape_of project) file))
+    (if is_old file then old_state project file else new_state project file)

@@ -1,7 +1,9 @@
 // The checks of the fields of a file, in the order of its bytes. Each gives the place after its fields.
 ghost use Rattle.std.specs.Prelude.{◌≡◌, ℕ, ◌+◌, ◌*◌, ◌≤◌, ◌<◌, [], ◌∷◌, ◌++◌, ◌&&◌, length, map, int_le, IfOk};
 ghost use Rattle.hotstart.specs.HotBytes.{kind_number as number_of_kind};
-ghost use Rattle.hotstart.specs.Layout.{letter, version, count, kind, value, magic, counts, times, head_fields, link_fields, least_fields, sub_fields, new_values, new_fields, rest_of, is_old as is_old_file, layout_of};
+ghost use Rattle.hotstart.specs.Layout.{letter, version, count, kind, value, magic, counts, times};
+ghost use Rattle.hotstart.specs.Layout.{head_fields, link_fields, least_fields, sub_fields, new_values};
+ghost use Rattle.hotstart.specs.Layout.{new_fields, rest_of, is_old as is_old_file, layout_of};
 ghost use Rattle.hotstart.specs.Checks.{AreGood, Passes, PassesFile, IsShape, range_field};
 
 use crate::columns::value_at;

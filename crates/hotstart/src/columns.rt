@@ -1,9 +1,11 @@
 // The values of a file that was found good.
-ghost use Rattle.std.specs.Prelude.{◌≡◌, ℕ, ◌+◌, ◌*◌, ◌≤◌, ◌<◌, length, map, IfOk, IfSome};
-ghost use Rattle.infiltration.specs.Infiltration.{IsInfil};
+ghost use Rattle.std.specs.Prelude.{◌≡◌, ℕ, ◌+◌, ◌*◌, ◌≤◌, ◌<◌, length, map, IfOk};
 ghost use Rattle.fixed_num.specs.Lists.{list_of};
+ghost use Rattle.net_types.specs.Ranges.{SubInRange};
+ghost use Rattle.net_types.specs.Sound.{IsSound};
 ghost use Rattle.hotstart.specs.Layout.{value_at as value_at_place};
-ghost use Rattle.hotstart.specs.Reading.{column as column_of, infil_at as infil_at_place, sub_at as sub_at_place, sub_width as width_of_sub, start_sub as start_of_sub, HasInfiltrations};
+ghost use Rattle.hotstart.specs.Reading.{column as column_of, infil_at as infil_at_place, sub_at as sub_at_place};
+ghost use Rattle.hotstart.specs.Reading.{sub_width as width_of_sub, start_sub as start_of_sub};
 
 use crate::state::HotSub;
 use byteorder::{ByteOrder, LittleEndian};
@@ -58,7 +60,8 @@ pub(crate) fn sub_column(
     count: usize,
 ) -> Result<List<HotSub>, OutOfMemory>
     requires { (k : ℕ) → k < count → place + width_of_sub kind.now * k + width_of_sub kind.now ≤ length file.now }
-    ensures { IfOk result (λ list. list ≡ list_of (λ k. sub_at_place kind.now file.now (place + width_of_sub kind.now * k)) count) }
+    ensures { IfOk result (λ list. list
+        ≡ list_of (λ k. sub_at_place kind.now file.now (place + width_of_sub kind.now * k)) count) }
 {
     let mut subs = List::new(alloc);
     let width = sub_width(kind);
@@ -105,7 +108,7 @@ fn infil_at(file: &[u8], place: usize, kind: &InfilKind) -> InfilState
 
 // The states of the subcatchments at the start of a run without a hotstart.
 pub(crate) fn start_subs(alloc: Global, project: &Project) -> Result<List<HotSub>, OutOfMemory>
-    requires { HasInfiltrations project.now }
+    requires { IsSound project.now }
     ensures { IfOk result (λ list. list ≡ map start_of_sub project.now.subs) }
 {
     let mut subs = List::new(alloc);
@@ -117,7 +120,7 @@ pub(crate) fn start_subs(alloc: Global, project: &Project) -> Result<List<HotSub
 
 // The state of a subcatchment at such a start.
 fn start_sub(sub: &Sub) -> HotSub
-    requires { IfSome sub.now.infil IsInfil }
+    requires { SubInRange sub.now }
     ensures { result ≡ start_of_sub sub.now }
 {
     let infil = match &sub.infil {

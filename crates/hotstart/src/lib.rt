@@ -1,9 +1,9 @@
 //! The hotstart file: a state of a run as bytes, from which a later run goes on.
 //!
-//! [`write_hot`] puts the bytes of a state (`specs/HotBytes`), [`read_hot`] reads them for a project. Of a file that isn't
-//! one for the project it tells the first fault, in the order of the bytes (`specs/Layout`); else the state in it
-//! (`specs/Reading`). Version 2 is written; versions 1 and 2 are read. Which states can be written stands in
-//! `specs/HotRanges`.
+//! [`write_hot`] puts the bytes of a state (`specs/HotBytes`), [`read_hot`] reads them for a project. Of a file
+//! that isn't one for the project it tells the first fault, in the order of the bytes (`specs/Layout`); else
+//! the state in it (`specs/Reading`). Version 2 is written; versions 1 and 2 are read. Which states can be
+//! written stands in `specs/HotRanges`.
 #![tactic(auto)]
 
 mod checks;

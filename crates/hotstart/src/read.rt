@@ -3,7 +3,9 @@ ghost use Rattle.std.specs.Prelude.{◌≡◌, ◌+◌, ◌*◌, length, IfOk, i
 ghost use Rattle.net_types.specs.Sound.{IsSound};
 ghost use Rattle.hotstart.specs.Checks.{IsGoodFile};
 ghost use Rattle.hotstart.specs.Layout.{is_old as is_old_file, layout_of};
-ghost use Rattle.hotstart.specs.Reading.{reading_of, answer_for, old_state as state_in_old, new_state as state_in_new, shape_of as shape_of_project, sub_width, HasInfiltrations};
+ghost use Rattle.hotstart.specs.Reading.{reading_of, answer_for, old_state as state_in_old};
+ghost use Rattle.hotstart.specs.Reading.{new_state as state_in_new, shape_of as shape_of_project};
+ghost use Rattle.hotstart.specs.Reading.{sub_width};
 
 use crate::checks::{check_file, is_old};
 use crate::columns::{column, start_subs, sub_column, value_at};
@@ -13,8 +15,8 @@ use crate::state::HotState;
 use net_types::{OutOfMemory, Project};
 use std::alloc::Global;
 
-/// What a file is as a hotstart for a project: the state in it, or its first fault, in the order of its bytes. A place is
-/// the number of a byte, from 0.
+/// What a file is as a hotstart for a project: the state in it, or its first fault, in the order of its bytes.
+/// A place is the number of a byte, from 0.
 #[derive(Debug, Drop)]
 pub enum HotRead {
     Good(HotState),
@@ -38,7 +40,6 @@ pub enum HotRead {
 /// subcatchments are as at a start without a hotstart. Source: this project's profile.
 pub fn read_hot(alloc: Global, bytes: &[u8], project: &Project) -> Result<HotRead, OutOfMemory>
     requires sound { IsSound project.now }
-    requires infiltrations { HasInfiltrations project.now }
     ensures { IfOk result (λ read. read ≡ reading_of project.now bytes.now) }
 {
     let shape = shape_of(project);
@@ -84,10 +85,10 @@ fn state_in(
     shape: &Shape,
 ) -> Result<HotState, OutOfMemory>
     requires sound { IsSound project.now }
-    requires infiltrations { HasInfiltrations project.now }
     requires shape { shape.now ≡ shape_of_project project.now }
     requires good { IsGoodFile file.now (layout_of shape.now file.now) }
-    ensures { IfOk result (λ state. state ≡ (if is_old_file file.now then state_in_old project.now file.now else state_in_new project.now file.now)) }
+    ensures { IfOk result (λ state. state
+        ≡ (if is_old_file file.now then state_in_old project.now file.now else state_in_new project.now file.now)) }
 {
     if is_old(file) {
         old_state(alloc, file, project, shape)
@@ -104,7 +105,6 @@ fn old_state(
     shape: &Shape,
 ) -> Result<HotState, OutOfMemory>
     requires sound { IsSound project.now }
-    requires infiltrations { HasInfiltrations project.now }
     requires shape { shape.now ≡ shape_of_project project.now }
     requires whole { 20 + 8 * shape.now.nodes + 16 * shape.now.links ≡ length file.now }
     ensures { IfOk result (λ state. state ≡ state_in_old project.now file.now) }
@@ -129,7 +129,8 @@ fn new_state(
 ) -> Result<HotState, OutOfMemory>
     requires sound { IsSound project.now }
     requires shape { shape.now ≡ shape_of_project project.now }
-    requires whole { 32 + 8 * shape.now.nodes + 16 * shape.now.links + sub_width shape.now.kind * shape.now.subs ≡ length file.now }
+    requires whole { 32 + 8 * shape.now.nodes + 16 * shape.now.links + sub_width shape.now.kind * shape.now.subs
+        ≡ length file.now }
     ensures { IfOk result (λ state. state ≡ state_in_new project.now file.now) }
 {
     let nodes = 8 * shape.nodes;

@@ -3,7 +3,8 @@ ghost use Rattle.std.specs.Prelude.{◌≡◌, ◌*◌, ◌≤◌, [], ◌∷◌
 ghost use Rattle.std.specs.List.{flat_map, zip};
 ghost use Rattle.fault_ports.specs.Causes.{HasCause};
 ghost use Rattle.fault_ports.specs.Output.{Puts};
-ghost use Rattle.hotstart.specs.HotBytes.{hot_bytes, header, count_bytes, value_bytes, link_bytes, sub_bytes, kept as kept_of};
+ghost use Rattle.hotstart.specs.HotBytes.{hot_bytes, header, count_bytes, value_bytes};
+ghost use Rattle.hotstart.specs.HotBytes.{link_bytes, sub_bytes, kept as kept_of};
 ghost use Rattle.hotstart.specs.HotRanges.{IsHotState};
 
 use crate::checks::kind_number;
@@ -14,8 +15,9 @@ use infiltration::InfilState;
 
 const MOST: i64 = 1_000_000_000_000_000;
 
-/// Puts the bytes of a state as a hotstart of version 2. After `Failed`, which comes only where a call of the sink failed, a
-/// front of them was put. A depth or a number of infiltration above 10^15 is written as 10^15. No memory is taken.
+/// Puts the bytes of a state as a hotstart of version 2. After `Failed`, which comes only where a call of the
+/// sink failed, a front of them was put. A depth or a number of infiltration above 10^15 is written as 10^15.
+/// No memory is taken.
 ///
 /// Source: this project's profile.
 pub fn write_hot<K: Sink>(to: &mut K, state: &HotState) -> Result<(), Failed>
@@ -32,7 +34,9 @@ pub fn write_hot<K: Sink>(to: &mut K, state: &HotState) -> Result<(), Failed>
 // Puts the header, and the values of nodes and links.
 fn put_nets<K: Sink>(to: &mut K, state: &HotState) -> Result<(), Failed>
     requires { IsHotState state.now }
-    ensures bytes { Puts (K.held to.old) (K.held to.new) (header state.now ++ flat_map value_bytes state.now.heads ++ flat_map link_bytes (zip state.now.flows state.now.settings)) result }
+    ensures bytes { Puts (K.held to.old) (K.held to.new)
+        (header state.now ++ flat_map value_bytes state.now.heads
+        ++ flat_map link_bytes (zip state.now.flows state.now.settings)) result }
     ensures cause { HasCause (K.faults to.old) (K.faults to.new) result }
 {
     match put_head_and_heads(to, state) {
@@ -44,7 +48,8 @@ fn put_nets<K: Sink>(to: &mut K, state: &HotState) -> Result<(), Failed>
 // Puts the header and the heads.
 fn put_head_and_heads<K: Sink>(to: &mut K, state: &HotState) -> Result<(), Failed>
     requires { IsHotState state.now }
-    ensures bytes { Puts (K.held to.old) (K.held to.new) (header state.now ++ flat_map value_bytes state.now.heads) result }
+    ensures bytes { Puts (K.held to.old) (K.held to.new)
+        (header state.now ++ flat_map value_bytes state.now.heads) result }
     ensures cause { HasCause (K.faults to.old) (K.faults to.new) result }
 {
     match put_header(to, state) {
@@ -149,7 +154,8 @@ fn put_link<K: Sink>(to: &mut K, flow: &i64, setting: &i64) -> Result<(), Failed
 
 // Puts the least travel time and the subcatchments.
 fn put_runoff<K: Sink>(to: &mut K, state: &HotState) -> Result<(), Failed>
-    ensures bytes { Puts (K.held to.old) (K.held to.new) (value_bytes state.now.least ++ flat_map sub_bytes state.now.subs) result }
+    ensures bytes { Puts (K.held to.old) (K.held to.new)
+        (value_bytes state.now.least ++ flat_map sub_bytes state.now.subs) result }
     ensures cause { HasCause (K.faults to.old) (K.faults to.new) result }
 {
     match put_value(to, &state.least) {

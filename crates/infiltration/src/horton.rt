@@ -118,7 +118,6 @@ impl HortonCurve {
 
     // A state of a hotstart brought into the volume.
     pub(crate) fn opening(&self, state: HortonState) -> HortonState
-        requires { IsHortonCurve self.now }
         ensures { result ≡ horton_opening self.now state }
     {
         if self.volume > 0 {

@@ -5,7 +5,10 @@ mod curve_number;
 mod depths;
 mod horton;
 mod infiltration;
+mod method;
 mod states;
+#[cfg(test)]
+mod tests;
 
 pub use depths::depth_over;
 pub use infiltration::{infiltrate, opening_state, start_state};

@@ -1,4 +1,5 @@
-use Rattle.std.proofs.Common.{◌≡◌, ◌∷◌, ◌++◌, [], ◌≤◌, ◌<◌, length, ℕ, zero, suc, List, take, refl, ap, sym, ◌∙◌, arith, append-nil, length-append, length-take}
+use Rattle.std.proofs.Common.{◌≡◌, ◌∷◌, ◌++◌, [], ◌≤◌, ◌<◌, length, ℕ, zero, suc, List, take}
+use Rattle.std.proofs.Common.{refl, ap, sym, ◌∙◌, arith, append-nil, length-append, length-take}
 use Rattle.std.proofs.lemmas.List.{take_all, take-append-le}
 
 -- one more where there is room

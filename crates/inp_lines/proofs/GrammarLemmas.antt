@@ -1,5 +1,7 @@
 -- The grammar of tokens, and the function that gives them.
-use Rattle.std.proofs.Common.{◌≡◌, inl, inr, ◌+◌, ◌<◌, ◌≤◌, ℕ, zero, suc, Bool, true, false, cond, not, List, [], ◌∷◌, ◌++◌, length, take, drop, get_or, Option, Some, None, refl, sym, ap, ap₂, ◌∙◌, subst, one-add, arith}
+use Rattle.std.proofs.Common.{◌≡◌, inl, inr, ◌+◌, ◌<◌, ◌≤◌, ℕ, zero, suc, Bool, true, false}
+use Rattle.std.proofs.Common.{cond, not, List, [], ◌∷◌, ◌++◌, length, take, drop, get_or, Option}
+use Rattle.std.proofs.Common.{Some, None, refl, sym, ap, ap₂, ◌∙◌, subst, one-add, arith}
 use Rattle.std.specs.Bool.{MatchBool}
 use Rattle.std.specs.List.{All, before_first, after_first, position_or_len}
 use Rattle.std.proofs.lemmas.Bool.Decides.{nat_tests}
@@ -7,7 +9,8 @@ use Rattle.std.proofs.lemmas.List.{take_all, drop_all, take-append-le, take-appe
 use Rattle.std.proofs.lemmas.List.Elements.{All-nil, All-cons, All-head, All-tail, All-weaker, All-same}
 use Rattle.std.proofs.lemmas.List.Sums.{split_at_first, passes_at_first}
 use lib.Dec.{ltb}
-use Rattle.inp_lines.specs.Tokens.{is_blank, is_quote, without_blanks, token_and_rest, tokens_of, RunsTo, BeginsWithToken, AreTokens}
+use Rattle.inp_lines.specs.Tokens.{is_blank, is_quote, without_blanks, token_and_rest}
+use Rattle.inp_lines.specs.Tokens.{tokens_of, RunsTo, BeginsWithToken, AreTokens}
 use Rattle.inp_lines.proofs.SectionLemmas.{blank_first, word_first}
 use Rattle.inp_lines.proofs.TokenLemmas.{rest_shorter, without_blanks_short, tokens_end, tokens_step}
 

@@ -1,4 +1,5 @@
-use Rattle.std.proofs.Common.{◌≡◌, ◌∷◌, ◌++◌, [], ◌≤◌, ◌<◌, ℕ, zero, suc, List, Bool, true, false, cond, take, refl, ap, sym, ◌∙◌, arith, ◌||◌, nat_le, subst, append-nil}
+use Rattle.std.proofs.Common.{◌≡◌, ◌∷◌, ◌++◌, [], ◌≤◌, ◌<◌, ℕ, zero, suc, List, Bool, true, false}
+use Rattle.std.proofs.Common.{cond, take, refl, ap, sym, ◌∙◌, arith, ◌||◌, nat_le, subst, append-nil}
 use Rattle.std.specs.Bool.{⊤}
 use Rattle.std.proofs.lemmas.Bool.Decides.{nat_tests}
 use Rattle.std.proofs.lemmas.List.{take-take}

@@ -1,4 +1,7 @@
-use Rattle.std.proofs.Common.{◌≡◌, ◌∷◌, ◌++◌, [], ◌≤◌, ◌<◌, length, ℕ, ◌+◌, List, Bool, true, false, cond, Option, Some, None, refl, ap, sym, ◌∙◌, arith, subst, ◌||◌, nat_le, nat_lt, bytes_eq, append_assoc, length-append, append-nil, is_some, option_to_list, take, drop, get_or, take-append-drop}
+use Rattle.std.proofs.Common.{◌≡◌, ◌∷◌, ◌++◌, [], ◌≤◌, ◌<◌, length, ℕ, ◌+◌, List, Bool, true, false}
+use Rattle.std.proofs.Common.{cond, Option, Some, None, refl, ap, sym, ◌∙◌, arith, subst, ◌||◌}
+use Rattle.std.proofs.Common.{nat_le, nat_lt, bytes_eq, append_assoc, length-append, append-nil}
+use Rattle.std.proofs.Common.{is_some, option_to_list, take, drop, get_or, take-append-drop}
 use Rattle.std.proofs.lemmas.List.{take_more}
 use Rattle.std.specs.List.{list_any, position_from}
 use Rattle.std.specs.Map.{update}
@@ -7,7 +10,8 @@ use Rattle.std.proofs.lemmas.Bool.Decides.{nat_tests}
 use Rattle.inp_lines.specs.declared.line.Line.{Line}
 use Rattle.inp_lines.specs.declared.names.Naming.{Naming}
 use Rattle.inp_lines.specs.declared.names.Naming.TheVariants.{First, OverLimit}
-use Rattle.inp_lines.specs.Names.{is_repeat, with_first, firsts_after, firsts, names_of, defined, with_name, naming_of, count_with, count_after, number_in, is_below, naming_by, naming_among}
+use Rattle.inp_lines.specs.Names.{is_repeat, with_first, firsts_after, firsts, names_of, defined, with_name}
+use Rattle.inp_lines.specs.Names.{naming_of, count_with, count_after, number_in, is_below, naming_by, naming_among}
 use Rattle.fixed_num.specs.declared.constants.TheConstants.{RECORD_LIMIT}
 
 -- what passes nowhere in a list is in no front of it

@@ -1,5 +1,7 @@
 -- Section lines.
-use Rattle.std.proofs.Common.{◌≡◌, ◌≢◌, ◌↔◌, ◌==◌, ◌+◌, ◌<◌, ℕ, zero, suc, true, false, cond, not, List, [], ◌∷◌, length, take, drop, get_or, map, slice_index, Some, None, refl, sym, ap, ◌∙◌, one-add, arith}
+use Rattle.std.proofs.Common.{◌≡◌, ◌≢◌, ◌↔◌, ◌==◌, ◌+◌, ◌<◌, ℕ, zero, suc, true, false}
+use Rattle.std.proofs.Common.{cond, not, List, [], ◌∷◌, length, take, drop, get_or, map}
+use Rattle.std.proofs.Common.{slice_index, Some, None, refl, sym, ap, ◌∙◌, one-add, arith}
 use Rattle.std.specs.List.{position_or_len}
 use Rattle.std.proofs.lemmas.Bool.Decides.{nat_tests}
 use Rattle.inp_lines.specs.declared.line.SectionName.{SectionName}

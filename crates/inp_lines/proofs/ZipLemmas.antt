@@ -1,4 +1,5 @@
-use Rattle.std.proofs.Common.{◌≡◌, ◌∷◌, ◌++◌, [], List, Bool, true, false, cond, Option, refl, ap, sym, ◌∙◌, filter, ℕ, subst}
+use Rattle.std.proofs.Common.{◌≡◌, ◌∷◌, ◌++◌, [], List, Bool, true, false, cond}
+use Rattle.std.proofs.Common.{Option, refl, ap, sym, ◌∙◌, filter, ℕ, subst}
 use Rattle.std.specs.List.{AllZip}
 use Rattle.inp_lines.specs.declared.line.Line.{Line}
 use Rattle.inp_lines.specs.declared.names.Naming.{Naming}

@@ -28,13 +28,15 @@ pipe_name line = at_conduits None line.section (name_with_of 3 line)
 -- the two nodes of a pipe; the first fault of the line counts
 abbrev pub pipe_ends_of : (List ℕ → Option ℕ) → Naming → List (List ℕ) → Result (ℕ × ℕ) Fault
 pipe_ends_of nodes naming (name ∷ first ∷ second ∷ rest) =
-    and_then (new_name_of naming) (λ _. and_then (needed_of (nodes first) 209 1) (λ from. and_then (needed_of (nodes second) 209 2) (λ to. Ok (from, to))))
+    and_then (new_name_of naming) (λ _. and_then (needed_of (nodes first) 209 1)
+    (λ from. and_then (needed_of (nodes second) 209 2) (λ to. Ok (from, to))))
 pipe_ends_of nodes naming (name ∷ first ∷ []) = Err (too_few_of (name ∷ first ∷ []))
 pipe_ends_of nodes naming (name ∷ []) = Err (too_few_of (name ∷ []))
 pipe_ends_of nodes naming [] = Err (too_few_of [])
 
 abbrev pub pipe_of : (List ℕ → Option ℕ) → Naming → Line → Reading (List ℕ × ℕ × ℕ)
-pipe_of nodes naming line = cond (is_long line) Other (reading_from (and_then (pipe_ends_of nodes naming line.tokens) (λ ends. Ok (token_at line.tokens 0, ends.0, ends.1))))
+pipe_of nodes naming line = cond (is_long line) Other (reading_from
+    (and_then (pipe_ends_of nodes naming line.tokens) (λ ends. Ok (token_at line.tokens 0, ends.0, ends.1))))
 
 abbrev pub pipe_reading : (List ℕ → Option ℕ) → Naming → Line → Reading (List ℕ × ℕ × ℕ)
 pipe_reading nodes naming line = at_conduits Other line.section (pipe_of nodes naming line)

@@ -26,13 +26,15 @@ faults_in line (Record record_read) = []
 faults_in line (Faulty fault) = line_fault line fault ∷ []
 
 -- What a line is read as where these lines stand before it. Source: this project's profile.
-abbrev pub reading_at : {A : Type 0} → (Line → Option (List ℕ)) → (Naming → Line → Reading A) → List Line → Line → Reading A
+abbrev pub reading_at : {A : Type 0}
+    → (Line → Option (List ℕ)) → (Naming → Line → Reading A) → List Line → Line → Reading A
 reading_at name_of reading_of before line = reading_of (naming_of (defined name_of before) (name_of line)) line
 
 abbrev pub record_at : {A : Type 0} → (Line → Option (List ℕ)) → (Naming → Line → Reading A) → List Line → Line → List A
 record_at name_of reading_of before line = records_in (reading_at name_of reading_of before line)
 
-abbrev pub fault_at : {A : Type 0} → (Line → Option (List ℕ)) → (Naming → Line → Reading A) → List Line → Line → List LineFault
+abbrev pub fault_at : {A : Type 0}
+    → (Line → Option (List ℕ)) → (Naming → Line → Reading A) → List Line → Line → List LineFault
 fault_at name_of reading_of before line = faults_in line (reading_at name_of reading_of before line)
 
 -- The fault of a line as a list. Source: this project's profile.

@@ -28,4 +28,5 @@ abbrev pub MergesInLineOrder : Type 0
 MergesInLineOrder = (s t : SectionName → Bool) (f g : List Line → Line → List LineFault) → FaultsIn s f → FaultsIn t g
     → ((name : SectionName) → s name ≡ true → t name ≡ false)
     → (above : ℕ) (lines : List Line) → Rise above lines → (old new : List LineFault)
-    → old ≡ cut (gather f [] lines) → new ≡ cut (merged old (cut (gather g [] lines))) → new ≡ cut (gather (both_of f g) [] lines)
+    → old ≡ cut (gather f [] lines) → new ≡ cut (merged old (cut (gather g [] lines)))
+    → new ≡ cut (gather (both_of f g) [] lines)

@@ -8,6 +8,7 @@ pub mod Numbers
 pub mod Readings
 pub mod Gather
 pub mod Merge
+pub mod Walks
 pub mod Sources
 pub mod Laws
 pub mod Example

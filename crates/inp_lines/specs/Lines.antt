@@ -30,11 +30,13 @@ is_empty (token ∷ tokens) = false
 -- The lines that are kept: those that have a token and aren't section lines, and the section lines of unknown
 -- sections (this project's profile).
 abbrev pub is_kept : List ℕ → Bool
-is_kept text = elim (named_section text) [ None ↦ not (is_empty (tokens_of (before_comment text))) | Some named ↦ is_unknown named ]
+is_kept text =
+    elim (named_section text) [ None ↦ not (is_empty (tokens_of (before_comment text))) | Some named ↦ is_unknown named ]
 
 -- The line of a number, a section and the bytes without the line end.
 abbrev pub line_of : ℕ → SectionName → List ℕ → Line
-line_of number named text = record { number = number; section = named; tokens = tokens_of (before_comment text); bytes = text }
+line_of number named text =
+    record { number = number; section = named; tokens = tokens_of (before_comment text); bytes = text }
 
 -- The line as a list: none where it isn't kept.
 abbrev pub line_list : ℕ → SectionName → List ℕ → List Line
@@ -43,7 +45,8 @@ line_list number named text = cond (is_kept text) (line_of number named text ∷
 -- The lines of texts, below these others; lines count from 1.
 abbrev pub lines_below : List (List ℕ) → List (List ℕ) → List Line
 lines_below above [] = []
-lines_below above (text ∷ below) = line_list (length above + 1) (section_at above text) text ++ lines_below (above ++ text ∷ []) below
+lines_below above (text ∷ below) =
+    line_list (length above + 1) (section_at above text) text ++ lines_below (above ++ text ∷ []) below
 
 -- The lines of an input. It is cut at each LF, which with one CR before it is no part of a line; what stands
 -- behind the last LF is a line if it isn't empty (this project's profile).

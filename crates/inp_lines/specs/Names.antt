@@ -1,4 +1,5 @@
-use Rattle.std.specs.Prelude.{ℕ, Bool, List, [], ◌∷◌, ◌++◌, ◌||◌, cond, nat_le, nat_lt, ◌+◌, false, length, bytes_eq, Option, option_to_list, flat_map, Some, None}
+use Rattle.std.specs.Prelude.{◌≡◌, ℕ, Bool, List, [], ◌∷◌, ◌++◌, ◌||◌, cond, nat_le, nat_lt, ◌+◌, false}
+use Rattle.std.specs.Prelude.{length, bytes_eq, Option, option_to_list, flat_map, Some, None}
 use Rattle.std.specs.List.{list_any, position_from}
 use Rattle.fixed_num.specs.declared.constants.TheConstants.{RECORD_LIMIT}
 use Rattle.inp_lines.specs.declared.line.Line.{Line}
@@ -53,6 +54,17 @@ naming_among held name = naming_by (is_repeat held name) (length held)
 abbrev pub naming_of : List (List ℕ) → Option (List ℕ) → Naming
 naming_of held None = naming.First
 naming_of held (Some name) = naming_among held name
+
+-- What defining a name does: where a list of names was numbered, as many as were counted, the list that `next`
+-- makes of it is numbered then, as many as are counted then. Source: this project's profile.
+abbrev pub Defines : (old new : List ℕ → Option ℕ) → (count more : ℕ) → (List (List ℕ) → List (List ℕ)) → Type 0
+Defines old new count more next = (held : List (List ℕ)) → old ≡ number_in held → length held ≡ count
+    → (new ≡ number_in (next held)) × (length (next held) ≡ more)
+
+-- How a name stands to the first so many of the names that are numbered. Source: this project's profile.
+abbrev pub StandsTo : (List ℕ → Option ℕ) → ℕ → Naming → (List (List ℕ) → Naming) → Type 0
+StandsTo numbers count found standing = (held more : List (List ℕ)) → numbers ≡ number_in (held ++ more)
+    → length held ≡ count → found ≡ standing held
 
 -- Whether a number is below a bound. Source: this project's profile.
 abbrev pub is_below : Option ℕ → ℕ → Bool

@@ -22,7 +22,8 @@ first_token (name ∷ tokens) = Some name
 -- The name that a line defines if it has so many items: a line that is too long or has too few defines none.
 -- Source: this project's profile.
 abbrev pub name_with_of : ℕ → Line → Option (List ℕ)
-name_with_of least line = cond (is_long line) None (cond (nat_lt (length line.tokens) least) None (first_token line.tokens))
+name_with_of least line =
+    cond (is_long line) None (cond (nat_lt (length line.tokens) least) None (first_token line.tokens))
 
 -- The value of an item, or a fault at its place. Source: this project's profile.
 abbrev pub needed_of : {A : Type 0} → Option A → ℕ → ℕ → Result A Fault

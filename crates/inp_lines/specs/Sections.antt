@@ -91,4 +91,5 @@ section_of_key key = first_section known_sections key
 -- The section that a line names. A line names one exactly where its first byte past blanks is `[`; its comment is
 -- no part of it (this project's profile).
 unfoldable pub named_section : List ℕ → Option SectionName
-named_section line = option_map (λ bytes. section_of_key (key_of bytes)) (behind_bracket (without_blanks (before_comment line)))
+named_section line =
+    option_map (λ bytes. section_of_key (key_of bytes)) (behind_bracket (without_blanks (before_comment line)))

@@ -15,5 +15,5 @@ pub record FaultsIn (sections : SectionName → Bool) (faults : List Line → Li
   pub elsewhere : (before : List Line) (line : Line) → sections line.section ≡ false → faults before line ≡ []
 
 -- The faults of two sources. Source: this project's profile.
-abbrev pub both_of : (List Line → Line → List LineFault) → (List Line → Line → List LineFault) → List Line → Line → List LineFault
+abbrev pub both_of : (f g : List Line → Line → List LineFault) → List Line → Line → List LineFault
 both_of f g before line = f before line ++ g before line

@@ -1,11 +1,13 @@
 // Kinds of records: which name a line defines, and what a line is read as.
-ghost use Rattle.std.specs.Prelude.{◌≡◌, ◌≤◌, ◌++◌, ℕ, List as Sequence, Option as Maybe, length, IfOk, OnOk, option_map, [], true};
+ghost use Rattle.std.specs.Prelude.{◌≡◌, ◌≤◌, ◌++◌, ℕ, List as Sequence, Option as Maybe};
+ghost use Rattle.std.specs.Prelude.{length, IfOk, OnOk, option_map, [], true};
 ghost use Rattle.inp_lines.specs.declared.line.Line.{Line as DataLine};
 ghost use Rattle.inp_lines.specs.declared.names.Naming.{Naming as NameStanding};
 ghost use Rattle.inp_lines.specs.declared.reading.Reading.{Reading as ReadingOf};
 ghost use Rattle.inp_lines.specs.Faults.{cut};
 ghost use Rattle.inp_lines.specs.Gather.{gather, record_at, fault_at, records_in, faults_in};
-ghost use Rattle.inp_lines.specs.Names.{number_in, defined, with_name, naming_of, count_with, count_after};
+ghost use Rattle.inp_lines.specs.Names.{Defines, StandsTo, number_in, defined, with_name, naming_of};
+ghost use Rattle.inp_lines.specs.Names.{count_with, count_after};
 ghost use Rattle.inp_lines.specs.Numbers.{numbers_of};
 
 use crate::fault::{Fault, add_fault};
@@ -64,7 +66,8 @@ fn add_name_of<'a, K: Kind<'a>>(
     names: &mut Names<'a>,
     count: u32,
 ) -> Result<u32, OutOfMemory>
-    ensures { IfOk result (λ more. (held : Sequence (Sequence ℕ)) → numbers_of names.old ≡ number_in held → length held ≡ count → (numbers_of names.new ≡ number_in (with_name held (K.name_of kind.now line.now))) × (length (with_name held (K.name_of kind.now line.now)) ≡ more)) }
+    ensures { IfOk result (λ more. Defines (numbers_of names.old) (numbers_of names.new) count more
+        (λ held. with_name held (K.name_of kind.now line.now))) }
 {
     match kind.name(line) {
         Some(name) => add_first(names, name, count),
@@ -83,8 +86,10 @@ pub fn read_records<'a, K: RecordKind<'a>>(
 ) -> Result<(), OutOfMemory>
     requires names { numbers_of names.now ≡ number_in (defined (K.name_of kind.now) lines.now) }
     requires short { length faults.old ≤ 100 }
-    ensures records { OnOk result (records.new ≡ records.old ++ gather (record_at (K.name_of kind.now) (K.reading_of kind.now)) [] lines.now) }
-    ensures faults { OnOk result (faults.new ≡ cut (faults.old ++ gather (fault_at (K.name_of kind.now) (K.reading_of kind.now)) [] lines.now)) }
+    ensures records { OnOk result (records.new
+        ≡ records.old ++ gather (record_at (K.name_of kind.now) (K.reading_of kind.now)) [] lines.now) }
+    ensures faults { OnOk result (faults.new
+        ≡ cut (faults.old ++ gather (fault_at (K.name_of kind.now) (K.reading_of kind.now)) [] lines.now)) }
     ensures short { OnOk result (length faults.new ≤ 100) }
 {
     let mut count = 0u32;
@@ -103,8 +108,10 @@ pub fn read_kind<'a, K: RecordKind<'a>>(
     lines: &'a List<Line>,
     records: &mut List<K::Record>,
 ) -> Result<List<LineFault>, OutOfMemory>
-    ensures records { OnOk result (records.new ≡ records.old ++ gather (record_at (K.name_of kind.now) (K.reading_of kind.now)) [] lines.now) }
-    ensures faults { IfOk result (λ faults. faults ≡ cut (gather (fault_at (K.name_of kind.now) (K.reading_of kind.now)) [] lines.now)) }
+    ensures records { OnOk result (records.new
+        ≡ records.old ++ gather (record_at (K.name_of kind.now) (K.reading_of kind.now)) [] lines.now) }
+    ensures faults { IfOk result (λ faults.
+        faults ≡ cut (gather (fault_at (K.name_of kind.now) (K.reading_of kind.now)) [] lines.now)) }
 {
     let names = number_names(alloc, kind, lines)?;
     let mut found = List::new(alloc);
@@ -119,7 +126,7 @@ pub fn naming_of_line<'a, K: Kind<'a>>(
     line: &'a Line,
     count: u32,
 ) -> Naming
-    ensures { (held more : Sequence (Sequence ℕ)) → numbers_of names.now ≡ number_in (held ++ more) → length held ≡ count → result ≡ naming_of held (K.name_of kind.now line.now) }
+    ensures { StandsTo (numbers_of names.now) count result (λ held. naming_of held (K.name_of kind.now line.now)) }
 {
     match kind.name(line) {
         Some(name) => naming_at(names, name, count),
@@ -158,7 +165,8 @@ fn read_line<'a, K: RecordKind<'a>>(
 ) -> Result<(), OutOfMemory>
     requires short { length faults.old ≤ 100 }
     ensures records { OnOk result (records.new ≡ records.old ++ records_in (K.reading_of kind.now naming line.now)) }
-    ensures faults { OnOk result (faults.new ≡ cut (faults.old ++ faults_in line.now (K.reading_of kind.now naming line.now))) }
+    ensures faults { OnOk result (faults.new
+        ≡ cut (faults.old ++ faults_in line.now (K.reading_of kind.now naming line.now))) }
     ensures short { OnOk result (length faults.new ≤ 100) }
 {
     match kind.read(alloc, line, naming)? {

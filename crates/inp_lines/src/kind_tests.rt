@@ -104,8 +104,10 @@ fn read_pipes(
     pipes: &mut List<(Text, u32, u32)>,
     faults: &mut List<LineFault>,
 ) -> Result<(), OutOfMemory>
-    ensures pipes { OnOk result (pipes.new ≡ pipes.old ++ gather (record_at pipe_name (pipe_reading (number_in (defined node_name lines.now)))) [] lines.now) }
-    ensures faults { OnOk result (faults.new ≡ cut (merged faults.old (cut (gather (fault_at pipe_name (pipe_reading (number_in (defined node_name lines.now)))) [] lines.now)))) }
+    ensures pipes { OnOk result (pipes.new
+        ≡ pipes.old ++ gather (record_at pipe_name (pipe_reading (number_in (defined node_name lines.now)))) [] lines.now) }
+    ensures faults { OnOk result (faults.new ≡ cut (merged faults.old
+        (cut (gather (fault_at pipe_name (pipe_reading (number_in (defined node_name lines.now)))) [] lines.now)))) }
 {
     let nodes = number_names(alloc, &Nodes, lines)?;
     let kind = Pipes { nodes: &nodes };

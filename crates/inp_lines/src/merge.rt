@@ -46,7 +46,8 @@ fn next_fault<'a>(
     xs: &'a [LineFault],
     ys: &'a [LineFault],
 ) -> Option<(&'a LineFault, &'a [LineFault], &'a [LineFault])>
-    ensures { MatchOption result (merged xs.now ys.now ≡ []) (λ found. merged xs.now ys.now ≡ found.0.now ∷ merged found.1.now found.2.now) }
+    ensures { MatchOption result (merged xs.now ys.now ≡ [])
+        (λ found. merged xs.now ys.now ≡ found.0.now ∷ merged found.1.now found.2.now) }
 {
     match xs {
         [] => match ys {

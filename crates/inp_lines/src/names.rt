@@ -1,6 +1,6 @@
 // Names and their numbers.
-ghost use Rattle.std.specs.Prelude.{◌≡◌, ◌++◌, [], ℕ, List as Sequence, length, IfOk};
-ghost use Rattle.inp_lines.specs.Names.{number_in, with_first, naming_among, naming_by, is_below};
+ghost use Rattle.std.specs.Prelude.{◌≡◌, [], IfOk};
+ghost use Rattle.inp_lines.specs.Names.{Defines, StandsTo, is_below, naming_among, naming_by, number_in, with_first};
 ghost use Rattle.inp_lines.specs.Numbers.{numbers_of};
 
 use fixed_num::RECORD_LIMIT;
@@ -19,7 +19,8 @@ pub enum Naming {
     OverLimit,
 }
 
-/// The numbers of the names of one kind, from 0 in the order in which they are defined. The names are lent by the lines.
+/// The numbers of the names of one kind, from 0 in the order in which they are defined. The names are lent by
+/// the lines.
 pub type Names<'a> = BTreeMap<&'a [u8], u32>;
 
 /// No names.
@@ -38,7 +39,8 @@ pub fn number_of<'a>(names: &Names<'a>, name: &'a [u8]) -> Option<u32>
 
 /// Defines a name after `count` others, if it is new and there is room; gives the count of the names then.
 pub fn add_first<'a>(names: &mut Names<'a>, name: &'a [u8], count: u32) -> Result<u32, OutOfMemory>
-    ensures { IfOk result (λ more. (held : Sequence (Sequence ℕ)) → numbers_of names.old ≡ number_in held → length held ≡ count → (numbers_of names.new ≡ number_in (with_first held name.now)) × (length (with_first held name.now) ≡ more)) }
+    ensures { IfOk result (λ more. Defines (numbers_of names.old) (numbers_of names.new) count more
+        (λ held. with_first held name.now)) }
 {
     if names.contains_key(&name) {
         return Ok(count);
@@ -75,7 +77,7 @@ fn naming_with(known: bool, count: u32) -> Naming
 
 /// How a name stands to the first `count` names, those that the lines before it define.
 pub fn naming_at<'a>(names: &Names<'a>, name: &'a [u8], count: u32) -> Naming
-    ensures { (held more : Sequence (Sequence ℕ)) → numbers_of names.now ≡ number_in (held ++ more) → length held ≡ count → result ≡ naming_among held name.now }
+    ensures { StandsTo (numbers_of names.now) count result (λ held. naming_among held name.now) }
 {
     naming_with(is_known(names, name, count), count)
 }

@@ -1,7 +1,8 @@
 // The section lines.
 ghost use Rattle.std.specs.Prelude.{◌≡◌, ◌↔◌, IsSome, List, Option, map, slice_index, take};
 ghost use Rattle.std.specs.Option.{option_map};
-ghost use Rattle.inp_lines.specs.Sections.{behind_bracket, first_section, is_key_of, key_of, named_section, section_of_key};
+ghost use Rattle.inp_lines.specs.Sections.{behind_bracket, first_section, is_key_of};
+ghost use Rattle.inp_lines.specs.Sections.{key_of, named_section, section_of_key};
 ghost use Rattle.inp_lines.specs.Tokens.{without_blanks};
 
 use crate::line::SectionName;

@@ -40,7 +40,8 @@ pub fn split_lines(alloc: Global, input: &[u8]) -> Result<List<Line>, OutOfMemor
 
 // The first line without its line end, and what stands below it.
 fn first_line(input: &[u8]) -> Option<(&[u8], &[u8])>
-    ensures first { MatchOption result (lines input.now ≡ []) (λ pair. lines input.now ≡ pair.0.now ∷ lines pair.1.now) }
+    ensures first { MatchOption result (lines input.now ≡ [])
+        (λ pair. lines input.now ≡ pair.0.now ∷ lines pair.1.now) }
     ensures shorter { IfSome result (λ pair. length pair.1.now < length input.now) }
 {
     let end = place_of(b'\n', input);

@@ -24,7 +24,8 @@ fn cut_at(place: usize, text: &[u8]) -> (&[u8], &[u8])
 
 // The first token, and what stands behind it.
 fn first_token(text: &[u8]) -> Option<(&[u8], &[u8])>
-    ensures first { MatchOption result (tokens_of text.now ≡ []) (λ pair. tokens_of text.now ≡ pair.0.now ∷ tokens_of pair.1.now) }
+    ensures first { MatchOption result (tokens_of text.now ≡ [])
+        (λ pair. tokens_of text.now ≡ pair.0.now ∷ tokens_of pair.1.now) }
     ensures shorter { IfSome result (λ pair. length pair.1.now < length text.now) }
 {
     match without_blanks(text) {

@@ -4,6 +4,7 @@ ghost use Rattle.inp_lines.specs.declared.line.Line.{Line as DataLine};
 ghost use Rattle.inp_lines.specs.declared.fault.Fault.{Fault as FaultOf};
 ghost use Rattle.inp_lines.specs.Faults.{cut};
 ghost use Rattle.inp_lines.specs.Gather.{gather, walk_fault, fault_found};
+ghost use Rattle.inp_lines.specs.Walks.{ComesNext, Finds, GoesOn};
 
 use crate::fault::{Fault, add_fault};
 use crate::line::Line;
@@ -18,9 +19,9 @@ pub trait LineWalk<'a> {
 
     /// Reads the next line. What the reader holds after some lines of all lines is said by `is_after`.
     fn step(&mut self, alloc: Global, line: &'a Line) -> Result<Option<Fault>, OutOfMemory>
-        requires { (before : Sequence DataLine) × ((rest : Sequence DataLine) × is_after self.old before (before ++ line.now ∷ rest)) }
-        ensures after { IfOk result (λ _. (before rest : Sequence DataLine) → is_after self.old before (before ++ line.now ∷ rest) → is_after self.new (before ++ line.now ∷ []) (before ++ line.now ∷ rest)) }
-        ensures fault { IfOk result (λ fault. (before rest : Sequence DataLine) → is_after self.old before (before ++ line.now ∷ rest) → fault ≡ fault_of self.old before line.now) }
+        requires { ComesNext (is_after self.old) line.now }
+        ensures after { IfOk result (λ _. GoesOn (is_after self.old) (is_after self.new) line.now) }
+        ensures fault { IfOk result (λ fault. Finds (is_after self.old) line.now fault (fault_of self.old)) }
         ensures same { OnOk result (fault_of self.new ≡ fault_of self.old) };
 }
 
@@ -34,7 +35,8 @@ pub fn walk_lines<'a, W: LineWalk<'a>>(
     requires start { W.is_after walk.old [] lines.now }
     requires short { length faults.old ≤ 100 }
     ensures after { OnOk result (W.is_after walk.new lines.now lines.now) }
-    ensures faults { OnOk result (faults.new ≡ cut (faults.old ++ gather (walk_fault (W.fault_of walk.old)) [] lines.now)) }
+    ensures faults { OnOk result (faults.new
+        ≡ cut (faults.old ++ gather (walk_fault (W.fault_of walk.old)) [] lines.now)) }
     ensures same { OnOk result (W.fault_of walk.new ≡ W.fault_of walk.old) }
     ensures short { OnOk result (length faults.new ≤ 100) }
 {

@@ -11,20 +11,16 @@ use Rattle.net_types.specs.declared.network.Link.{Link}
 use Rattle.net_types.specs.declared.network.LinkKind.{LinkKind}
 use Rattle.net_types.specs.declared.network.LinkKind.TheVariants.{Conduit, Pump, Orifice, Weir}
 use Rattle.net_types.specs.declared.network.Section.{Section}
-use Rattle.net_types.specs.declared.network.Shape.{Shape}
-use Rattle.net_types.specs.declared.network.Shape.TheVariants.{RectOpen, RectClosed, Trapezoidal, Triangular, Circular}
 use Rattle.net_types.specs.declared.project.Project.{Project}
 use Rattle.node_update.specs.NodeLaws.{IsNodeLaw, node_law_of}
 use Rattle.net_types.specs.Sound.{IsSound}
-use Rattle.net_types.specs.Ranges.{SectionInRange, ShapeInRange}
+use Rattle.net_types.specs.Ranges.{SectionInRange}
 use Rattle.project_check.specs.Faultless.{IsFaultless, IsGoodSection as IsFaultlessSection}
 use Rattle.project_check.specs.Objects.{needs_none, section_area}
-use Rattle.project_check.specs.Tables.{HasRows}
 use Rattle.project_check.proofs.LawLemmas.{faultless_good}
 use Rattle.xsect_tables.specs.SectionTable.{SectionTable, table_of, full_area}
-use Rattle.xsect_tables.specs.Sections.{IsSection, IsRectOpen, HasSizes, is_closed}
-use Rattle.xsect_tables.proofs.TableLemmas.{table_is, grid_area-between}
-use Rattle.link_eval.specs.Built.{HasHydraulics, IsLossless}
+use Rattle.xsect_tables.proofs.TableLemmas.{areas_are}
+use Rattle.link_eval.specs.Built.{HasHydraulics, IsConduitKind}
 use Rattle.link_eval.specs.Routed.{HasConduitSection, IsConduitSection, IsRouted}
 use Rattle.link_eval.specs.Good.{IsGoodLink, IsGood}
 use Rattle.link_eval.specs.Hydraulics.{Hydraulics, LinkLaw, no_node_law, no_link_law, node_law_at, link_law_at, link_law_of}
@@ -50,43 +46,23 @@ laws_are_good project h sound nodes nodes_good links links_good =
 abbrev pub law_with : ℕ → ℕ → ConduitData → SectionTable → LinkLaw
 law_with first second conduit table = record { first = first; second = second; conduit = conduit; table = table }
 
--- a rectangular open section is open at the top
-open_shape : (shape : Shape) → IsRectOpen shape → is_closed shape ≡ false
-open_shape (RectOpen width) h = refl
-open_shape (RectClosed width) h = absurd h
-open_shape (Trapezoidal bottom left6 right6) h = absurd h
-open_shape (Triangular top) h = absurd h
-open_shape Circular h = absurd h
-
-pub open_table : (section : Section) → IsRectOpen section.shape → (table_of section).closed ≡ false
-unfolding table_of
-open_table section h = open_shape section.shape h
-
 -- ---- a link of a faultless project with hydraulics
-sizes_of : (shape : Shape) → ShapeInRange shape → HasSizes shape
-sizes_of (RectOpen width) h = h
-sizes_of (RectClosed width) h = h
-sizes_of (Trapezoidal bottom left6 right6) h = (h.bottom_in, h.left_in, h.right_in)
-sizes_of (Triangular top) h = h
-sizes_of Circular h = tt
-
 above_zero : (a : ℤ) → pos 0 ≤ℤ a → ¬ (a ≡ pos 0) → pos 1 ≤ℤ a
 above_zero (pos zero) h n = absurd (n refl)
 above_zero (pos (suc k)) h n = omega (arith, ints)
 above_zero a h n = grind (arith, ints, h, n)
 
-conduit_section : (kind : LinkKind) (section : Section) → SectionInRange section → IsFaultlessSection kind section → IsRectOpen section.shape → IsConduitSection section
+conduit_section : (kind : LinkKind) (section : Section) → SectionInRange section → IsFaultlessSection kind section → IsConduitSection section
 unfolding section_area
-conduit_section kind section h g shape =
-    let sizes : IsSection section = record { full = h.full_in; barrels = h.barrels_in; sizes = sizes_of section.shape h.shape_in } in
-    let from_zero = (grid_area-between (table_is section sizes shape) 200 (omega arith)).from in
-    record { sizes = sizes; shape = shape; area = record { from = above_zero (full_area (table_of section)) from_zero g.some_area; to = g.most_area } }
+conduit_section kind section h g =
+    let from_zero = ((areas_are section h).each 200 (omega arith)).from in
+    record { range = h; area = record { from = above_zero (full_area (table_of section)) from_zero g.some_area; to = g.most_area } }
 
-some_section : (kind : LinkKind) (section : Option Section) → IsSome section → IfSome section SectionInRange → IfSome section (IsFaultlessSection kind) → IfSome section HasRows → HasConduitSection section
-some_section kind (Some section) there h g rows = conduit_section kind section h g rows
-some_section kind None there h g rows = let no : ⊥ = cc in absurd no
+some_section : (kind : LinkKind) (section : Option Section) → IsSome section → IfSome section SectionInRange → IfSome section (IsFaultlessSection kind) → HasConduitSection section
+some_section kind (Some section) there h g = conduit_section kind section h g
+some_section kind None there h g = let no : ⊥ = cc in absurd no
 
-needs_one : (kind : LinkKind) → IsLossless kind → ¬ (IsTrue (needs_none kind))
+needs_one : (kind : LinkKind) → IsConduitKind kind → ¬ (IsTrue (needs_none kind))
 needs_one (Conduit long n6 z1 z2 q0 q_max entry6 exit6 avg6 flap) h t = let no : ⊥ = cc in no
 needs_one (Pump curve on startup shutoff) h t = h
 needs_one (Orifice bottom offset cd6 flap) h t = h
@@ -94,7 +70,7 @@ needs_one (Weir notch crest cd6 flap contractions) h t = h
 
 pub routed_section : {nodes : ℕ} (link : Link) → IsRouted nodes link → HasConduitSection link.section
 routed_section link r =
-    some_section link.kind link.section (r.good.has_section (needs_one link.kind r.built.kind)) r.range.section_in r.good.good_section r.built.table
+    some_section link.kind link.section (r.good.has_section (needs_one link.kind r.built)) r.range.section_in r.good.good_section
 
 pub all_routed : (project : Project) → IsFaultless project → HasHydraulics project → All (IsRouted (length project.nodes)) project.links
 all_routed project f h k d inside =

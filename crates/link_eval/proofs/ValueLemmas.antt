@@ -1,43 +1,21 @@
 -- What good hydraulics give lies in its ranges, and a junction stays below its top: for the crates that add up volumes.
-use Rattle.std.proofs.Common.{◌≡◌, ℕ, ◌^◌, ◌<◌, Bool, length, ℤ, pos, ◌≤ℤ◌, unsigned_abs, arith}
-use Rattle.std.proofs.lemmas.Int.{ints}
-use Rattle.conduit_flow.proofs.RangeLemmas.{prism-between}
-use Rattle.conduit_flow.specs.Conduits.{IsConduit, IsConduitTable}
-use Rattle.conduit_flow.specs.Geometry.{mean_depth_of, mid_area_of, volume_of}
-use Rattle.conduit_flow.specs.declared.conduit.ConduitData.{ConduitData}
-use Rattle.fixed_num.specs.Ranges.{IsBetween, IsWithin}
+use Rattle.std.proofs.Common.{◌≡◌, ℕ, ◌^◌, ◌<◌, Bool, length, ℤ, pos, ◌*◌, ◌≤ℤ◌, unsigned_abs}
+use Rattle.conduit_flow.proofs.GeometryLemmas.{mid_area_of-between}
+use Rattle.fixed_num.specs.Ranges.{IsBetween, IsHead, IsWithin}
 use Rattle.node_update.proofs.GainLemmas.{gain_within, inflow_between, outflow_between}
 use Rattle.node_update.proofs.UpdateLemmas.{next_place, flood_between, flood_most, volume_within}
 use Rattle.node_update.specs.NodeUpdate.{gain_of, flood_of, volume_of as node_volume_of}
 use Rattle.node_update.specs.declared.node_law.HeadRule.TheVariants.{Junction as JunctionRule}
 use Rattle.phase_law.specs.Ranges.{HeadInRange, SumsInRange, NodeFixedInRange}
 use Rattle.phase_law.specs.declared.values.NodeFixed.{NodeFixed}
-use Rattle.xsect_tables.proofs.TableLemmas.{area_between}
-use Rattle.xsect_tables.specs.SectionTable.{SectionTable}
 use Rattle.link_eval.specs.Good.{IsGood}
-use Rattle.link_eval.specs.Hydraulics.{Hydraulics, node_law_at, link_law_at, volume_at, mid_area_at, law_of}
+use Rattle.link_eval.specs.Hydraulics.{Hydraulics, node_law_at, mid_area_at, law_of}
 use Rattle.link_eval.specs.LawGood.{head_in, fixed_in}
 
--- ---- a conduit
-at_most : (a b c : ℤ) → IsBetween (pos 0) a b → b ≤ℤ c → IsBetween (pos 0) a c
-at_most a b c h k = let l = h.from in let m = h.to in record { from = l; to = omega (arith, ints) }
-
-mid_area_of-between : (conduit : ConduitData) {table : SectionTable} (near far : ℤ) → IsConduitTable table → IsBetween (pos 0) (mid_area_of conduit table near far) (pos (10 ^ 11))
-unfolding mid_area_of
-mid_area_of-between conduit {table} near far t = at_most _ _ (pos (10 ^ 11)) (area_between (mean_depth_of conduit near far) t.rows) t.full.to
-
-volume_of-between : {conduit : ConduitData} {table : SectionTable} (near far : ℤ) → IsConduit conduit → IsConduitTable table → IsBetween (pos 0) (volume_of conduit table near far) (pos (10 ^ 22))
-unfolding volume_of
-volume_of-between {conduit} near far c t = prism-between (mid_area_of-between conduit near far t) c.length t.rows.barrels
-
 -- ---- a link, by its number
-pub mid_area_at-between : (h : Hydraulics) (l : ℕ) (near far : ℤ) → IsGood h → l < length h.links → IsBetween (pos 0) (mid_area_at h l near far) (pos (10 ^ 11))
+pub mid_area_at-between : (h : Hydraulics) (l : ℕ) {near far : ℤ} → IsGood h → l < length h.links → IsHead near → IsHead far → IsBetween (pos 0) (mid_area_at h l near far) (pos (5 * 10 ^ 11))
 unfolding mid_area_at
-mid_area_at-between h l near far g inside = mid_area_of-between (link_law_at h l).conduit near far (g.links l inside).table
-
-pub volume_at-between : (h : Hydraulics) (l : ℕ) (near far : ℤ) → IsGood h → l < length h.links → IsBetween (pos 0) (volume_at h l near far) (pos (10 ^ 22))
-unfolding volume_at
-volume_at-between h l near far g inside = volume_of-between near far (g.links l inside).conduit (g.links l inside).table
+mid_area_at-between h l g inside n f = let link = g.links l inside in mid_area_of-between link.conduit link.table n f
 
 -- ---- a node, by its number
 pub node_volume-within : (h : Hydraulics) (n : ℕ) {head : ℤ} → IsGood h → n < length h.nodes → HeadInRange (law_of h) head → IsWithin (10 ^ 21) (node_volume_of (node_law_at h n) head)

@@ -1,6 +1,7 @@
--- What a network of junctions, outfalls and conduits computes: the laws of its nodes and links, and the law of the whole
--- (Reference Manual volume II, chapter 3).
-use Rattle.std.specs.Prelude.{ℕ, ◌*◌, ◌^◌, Bool, false, List, [], length, map, slice_index_or, Option, Some, None, ℤ, pos, ◌+ℤ◌, ◌||◌}
+-- What a network of junctions, outfalls and conduits computes: the laws of its nodes and links, and the law of the
+-- whole (Reference Manual volume II, chapter 3).
+use Rattle.std.specs.Prelude.{ℕ, ◌*◌, ◌^◌, Bool, false, List, [], length, map, slice_index_or, Option, Some, None, ℤ}
+use Rattle.std.specs.Prelude.{pos, ◌+ℤ◌, ◌||◌}
 use Rattle.fixed_num.specs.Lists.{list_of}
 use Rattle.conduit_flow.specs.ConduitShare.{share_of}
 use Rattle.conduit_flow.specs.Geometry.{mid_area_of, volume_of}
@@ -52,8 +53,8 @@ no_conduit = record {
   limiter = Both;
 }
 
--- a conduit as it is routed: its ends lie at the inverts of its nodes and its offsets; a flap gate of its own or a gated
--- outfall at its second end keeps water from running back; other links are none
+-- a conduit as it is routed: its ends lie at the inverts of its nodes and its offsets; a flap gate of its own or a
+-- gated outfall at its second end keeps water from running back; other links are none
 abbrev pub conduit_of : LinkKind → (invert1 invert2 : ℤ) → (gated : Bool) → Options → ConduitData
 conduit_of (Conduit long n6 z1 z2 q0 q_max entry6 exit6 avg6 flap) invert1 invert2 gated options = record {
   z1 = invert1 +ℤ z1;
@@ -100,7 +101,14 @@ hydraulics_of project = record {
 
 -- a node's and a link's law, for numbers past the end of a list
 abbrev pub no_node_law : NodeLaw
-no_node_law = record { rule = FixedOutfall; invert = pos 0; full = pos 0; top = pos 0; min_area = pos 0; tolerance = pos 0 }
+no_node_law = record {
+  rule = FixedOutfall;
+  invert = pos 0;
+  full = pos 0;
+  top = pos 0;
+  min_area = pos 0;
+  tolerance = pos 0;
+}
 
 abbrev pub no_link_law : LinkLaw
 no_link_law = record { first = 0; second = 0; conduit = no_conduit; table = no_table }
@@ -126,6 +134,7 @@ law_of h = record {
   links = length h.links;
   limit = 2 * 10 ^ 10;
   ends = λ l. ((link_law_at h l).first, (link_law_at h l).second);
-  share = λ l fixed first near far last. share_of (link_law_at h l).conduit (link_law_at h l).table fixed first near far last;
+  share = λ l fixed first near far last.
+      share_of (link_law_at h l).conduit (link_law_at h l).table fixed first near far last;
   next = λ n fixed first inflow outflow area last. next_of (node_law_at h n) fixed first inflow outflow area last;
 }

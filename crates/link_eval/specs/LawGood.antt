@@ -1,5 +1,5 @@
--- The law of good hydraulics answers in range wherever it is asked in range: proofs, which stand here since the ghost law of
--- a type may cite no other file of its crate.
+-- The law of good hydraulics answers in range wherever it is asked in range: proofs, which stand here since the ghost
+-- law of a type may cite no other file of its crate.
 use Rattle.std.proofs.Common.{ℕ, ◌*◌, ◌/◌, ◌^◌, Bool, true, false, cond, ℤ, pos, negsuc, ◌*ℤ◌, ◌≤ℤ◌, neg_ℤ, arith}
 use Rattle.std.specs.Int.{int_min}
 use Rattle.std.specs.Ordering.{int_eq}
@@ -21,7 +21,7 @@ use Rattle.phase_law.specs.Ranges.{HeadInRange, ShareInRange, NodeFixedInRange}
 use Rattle.phase_law.specs.declared.values.LinkFixed.{LinkFixed}
 use Rattle.phase_law.specs.declared.values.NodeFixed.{NodeFixed}
 use Rattle.phase_law.specs.declared.values.Share.{Share}
-use Rattle.xsect_tables.proofs.TableLemmas.{width_between}
+use Rattle.xsect_tables.proofs.TableLemmas.{width_of-between}
 use Rattle.xsect_tables.specs.SectionTable.{SectionTable}
 use Rattle.link_eval.specs.Good.{IsGood}
 use Rattle.link_eval.specs.Hydraulics.{Hydraulics, law_of}
@@ -56,9 +56,9 @@ wet_share-in_range : {conduit : ConduitData} {table : SectionTable} (fixed : Lin
     → ShareInRange (wet_share_of conduit table fixed (ends_of conduit table near far) (middle_of table (mean_depth_of conduit near far)) first last)
 unfolding wet_share_of barrel_flow_of ends_of middle_of
 wet_share-in_range {conduit} {table} fixed first near far last c t =
-    let mid = width_between (mean_depth_of conduit near far) t.rows in
-    let area1 = end_area-between (width_between (depth_of near conduit.z1) t.rows) mid c.length t.rows.barrels in
-    let area2 = end_area-between (width_between (depth_of far conduit.z2) t.rows) mid c.length t.rows.barrels in
+    let mid = width_of-between (mean_depth_of conduit near far) t.rows in
+    let area1 = end_area-between (width_of-between (depth_of near conduit.z1) t.rows) mid c.length t.rows.barrels in
+    let area2 = end_area-between (width_of-between (depth_of far conduit.z2) t.rows) mid c.length t.rows.barrels in
     record {
       flow = held-flow conduit.q_max table.barrels _ c.q_max.from t.rows.barrels;
       area1 = area1;

@@ -14,7 +14,8 @@ use std::alloc::Global;
 pub(crate) fn link_laws(alloc: Global, project: &Project) -> Result<List<LinkLaw>, OutOfMemory>
     requires faultless { IsFaultless project.now }
     requires built { HasHydraulics project.now }
-    ensures { IfOk result (λ laws. (laws ≡ map (link_law_of project.now.nodes project.now.options) project.now.links) × All (IsGoodLink (length project.now.nodes)) laws) }
+    ensures { IfOk result (λ laws. (laws ≡ map (link_law_of project.now.nodes project.now.options) project.now.links)
+        × All (IsGoodLink (length project.now.nodes)) laws) }
 {
     let mut laws = List::new(alloc);
     let nodes = project.nodes.as_slice();

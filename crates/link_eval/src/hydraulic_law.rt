@@ -66,7 +66,7 @@ impl HydraulicLaw {
         requires near { IsHead near }
         requires far { IsHead far }
         ensures value { result ≡ mid_area_at self.now.hydraulics link near far }
-        ensures range { IsBetween (pos 0) result (pos (10 ^ 11)) }
+        ensures range { IsBetween (pos 0) result (pos (5 * 10 ^ 11)) }
     {
         let law = self.link(link);
         mid_area(&law.conduit, &law.table, near, far)

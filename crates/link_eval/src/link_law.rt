@@ -6,11 +6,11 @@ ghost use Rattle.conduit_flow.specs.Conduits.{IsConduit, IsConduitTable};
 ghost use Rattle.net_types.specs.Ranges.{LinkKindInRange, NodeInRange};
 ghost use Rattle.link_eval.specs.Good.{IsGoodLink};
 ghost use Rattle.link_eval.specs.Hydraulics.{link_law_of, conduit_of, is_gated, section_table};
-ghost use Rattle.link_eval.specs.Built.{IsLossless};
+ghost use Rattle.link_eval.specs.Built.{IsConduitKind};
 ghost use Rattle.link_eval.specs.Routed.{HasConduitSection, IsRouted};
 
 use conduit_flow::ConduitData;
-use net_types::{Damping, Link, LinkKind, Node, NodeKind, Options, Section};
+use net_types::{Link, LinkKind, Node, NodeKind, Options, Section};
 use xsect_tables::Table;
 
 /// What the share of a link depends on: its first and its second node, its conduit and the table of its section.
@@ -25,7 +25,6 @@ pub struct LinkLaw {
 // The law of a link between these nodes.
 pub(crate) fn link_law(nodes: &[Node], options: &Options, link: &Link) -> LinkLaw
     requires nodes { All NodeInRange nodes.now }
-    requires damped { options.now.damping ≡ Damping.Full }
     requires link { IsRouted (length nodes.now) link.now }
     ensures value { result ≡ link_law_of nodes.now options.now link.now }
     ensures good { IsGoodLink (length nodes.now) result }
@@ -54,10 +53,9 @@ fn is_gated(kind: &NodeKind) -> bool
 // A conduit as it is routed, between two inverts in µm.
 fn conduit(kind: &LinkKind, near: i64, far: i64, gated: bool, options: &Options) -> ConduitData
     requires kind { LinkKindInRange kind.now }
-    requires lossless { IsLossless kind.now }
+    requires built { IsConduitKind kind.now }
     requires near { IsElevation near }
     requires far { IsElevation far }
-    requires damped { options.now.damping ≡ Damping.Full }
     ensures value { result ≡ conduit_of kind.now near far gated options.now }
     ensures good { IsConduit result }
 {

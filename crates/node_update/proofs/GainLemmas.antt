@@ -1,11 +1,13 @@
 -- The ranges of what a node gains and of what it would do with it.
-use Rattle.std.proofs.Common.{◌≡◌, ℕ, ◌*◌, ◌/◌, ◌^◌, ◌≤◌, ℤ, pos, negsuc, ◌+ℤ◌, ◌-ℤ◌, ◌*ℤ◌, ◌≤ℤ◌, unsigned_abs, refl, arith}
+use Rattle.std.proofs.Common.{◌≡◌, ℕ, ◌*◌, ◌/◌, ◌^◌, ◌≤◌, ℤ, pos, negsuc, ◌+ℤ◌}
+use Rattle.std.proofs.Common.{◌-ℤ◌, ◌*ℤ◌, ◌≤ℤ◌, unsigned_abs, refl, arith}
 use Rattle.std.specs.Prelude.{int_div}
 use Rattle.std.proofs.lemmas.Int.{ints}
 use Rattle.fixed_num.specs.Ranges.{IsBetween, IsWithin, IsFlow, IsStepLength, IsHead, IsElevation}
 use Rattle.fixed_num.specs.Rounding.{quo_of}
 use Rattle.fixed_num.proofs.Between.{product_from_zero}
-use Rattle.fixed_num.proofs.Bounds.{within_number, within_up, within_add, within_sub, within_mul, within_between, within_quo, within_quo_by, between_up, between_add, le_number, quo_of-from_zero}
+use Rattle.fixed_num.proofs.Bounds.{within_number, within_up, within_add, within_sub, within_mul, within_between}
+use Rattle.fixed_num.proofs.Bounds.{within_quo, within_quo_by, between_up, between_add, le_number, quo_of-from_zero}
 use Rattle.phase_law.specs.Ranges.{SumsInRange}
 use Rattle.phase_law.specs.declared.values.NodeFixed.{NodeFixed}
 use Rattle.node_update.specs.NodeLaws.{IsNodeLaw}

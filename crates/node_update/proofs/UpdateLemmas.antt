@@ -1,17 +1,21 @@
 -- What holds of the next head of a node, of its flood and of its volume: ranges, and the place below the top.
-use Rattle.std.proofs.Common.{◌≡◌, ◌∙◌, ℕ, ◌*◌, ◌^◌, Bool, true, false, cond, ℤ, pos, ◌+ℤ◌, ◌*ℤ◌, ◌≤ℤ◌, unsigned_abs, refl, sym, ap, subst, arith}
+use Rattle.std.proofs.Common.{◌≡◌, ◌∙◌, ℕ, ◌*◌, ◌^◌, Bool, true, false, cond, ℤ, pos, ◌+ℤ◌}
+use Rattle.std.proofs.Common.{◌*ℤ◌, ◌≤ℤ◌, unsigned_abs, refl, sym, ap, subst, arith}
 use Rattle.std.specs.Prelude.{int_lt}
 use Rattle.std.specs.Int.{int_max}
 use Rattle.std.proofs.lemmas.Int.{ints, clamps}
 use Rattle.fixed_num.specs.Ranges.{IsBetween, IsWithin, cut_of, IsHead}
 use Rattle.fixed_num.specs.Relaxation.{relaxed_of}
 use Rattle.fixed_num.specs.Rounding.{quo_of}
-use Rattle.fixed_num.proofs.Bounds.{within_up, within_add, within_sub, within_mul, within_max, within_cut, within_between, within_quo_by, between_cut, le_number, lt_number, quo_of-mono, quo_of-exact}
+use Rattle.fixed_num.proofs.Bounds.{within_up, within_add, within_sub, within_mul, within_max}
+use Rattle.fixed_num.proofs.Bounds.{within_cut, within_between, within_quo_by, between_cut}
+use Rattle.fixed_num.proofs.Bounds.{le_number, lt_number, quo_of-mono, quo_of-exact}
 use Rattle.phase_law.specs.Ranges.{SumsInRange}
 use Rattle.phase_law.specs.declared.values.NodeFixed.{NodeFixed}
 use Rattle.phase_law.specs.declared.values.NodeNext.{NodeNext}
 use Rattle.node_update.specs.NodeLaws.{IsNodeLaw}
-use Rattle.node_update.specs.NodeUpdate.{IsNodeFixed, gain_of, raised_of, excess_of, junction_head, rule_next, next_of, rule_flood, flood_of, rule_volume, volume_of}
+use Rattle.node_update.specs.NodeUpdate.{IsNodeFixed, gain_of, raised_of, excess_of, junction_head}
+use Rattle.node_update.specs.NodeUpdate.{rule_next, next_of, rule_flood, flood_of, rule_volume, volume_of}
 use Rattle.node_update.specs.declared.node_law.HeadRule.{HeadRule as Rule}
 use Rattle.node_update.specs.declared.node_law.HeadRule.TheVariants.{Junction as JunctionRule, FixedOutfall}
 use Rattle.node_update.specs.declared.node_law.NodeLaw.{NodeLaw as Law}

@@ -43,8 +43,9 @@ unfoldable pub node_law_of : Project → ℕ → Law
 node_law_of project k =
     let node = node_at project.nodes k in kind_law node.kind node.invert (full_height_of project k) project.options
 
--- the ranges of every node's law: an invert within 10^10 µm, a full height of 0 to 2·10^9 µm, a top 0 to 3·10^9 µm above
--- the invert, a least area of 10^4 to 10^13 mm² and a tolerance of 0 to 10^9 µm (this project's profile)
+-- the ranges of every node's law: an invert within 10^10 µm, a full height of 0 to 2·10^9 µm, a top 0 to 3·10^9
+-- µm above the invert, a least area of 10^4 to 10^13 mm² and a tolerance of 0 to 10^9 µm (this project's
+-- profile)
 pub record IsNodeLaw (law : Law) : Type 0 where
   pub invert_in : IsElevation law.invert
   pub full_in : IsBetween (pos 0) law.full (pos (2 * 10 ^ 9))

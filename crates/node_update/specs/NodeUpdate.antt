@@ -66,7 +66,8 @@ excess_of law fixed inflow outflow area =
 -- and never less than 0; an outfall has none
 abbrev pub rule_flood : Rule → Law → NodeFixed → (inflow outflow area : ℤ) → ℤ
 rule_flood JunctionRule law fixed inflow outflow area =
-    if int_lt law.top (raised_of law fixed inflow outflow area) then int_max (excess_of law fixed inflow outflow area) (pos 0) else pos 0
+    if int_lt law.top (raised_of law fixed inflow outflow area)
+    then int_max (excess_of law fixed inflow outflow area) (pos 0) else pos 0
 rule_flood FixedOutfall law fixed inflow outflow area = pos 0
 
 unfoldable pub flood_of : Law → NodeFixed → (inflow outflow area last : ℤ) → ℤ

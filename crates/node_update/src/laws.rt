@@ -7,6 +7,7 @@ ghost use Rattle.phase_law.specs.declared.values.NodeFixed.{NodeFixed};
 
 /// Law: a junction whose last head was not above its top stays there, whatever comes in.
 pub fn stays_below_its_top()
-    ensures { (law : Law) (fixed : NodeFixed) (first : Bool) (inflow outflow area last : ℤ) → IsNodeLaw law → law.rule ≡ JunctionRule
+    ensures { (law : Law) (fixed : NodeFixed) (first : Bool) (inflow outflow area last : ℤ)
+        → IsNodeLaw law → law.rule ≡ JunctionRule
         → last ≤ℤ law.top → (next_of law fixed first inflow outflow area last).head ≤ℤ law.top }
 {}

@@ -1,10 +1,10 @@
 //! How a node answers to its inflow: its next head in a trial, its flood and its volume.
 //!
-//! `NodeLaw::build` takes from a sound project what the answers depend on (`specs/NodeLaws.antt`), and `node_laws` does so
-//! for all nodes; the kinds of nodes that are built are those of `specs/Network.antt`: junctions without ponding and
-//! outfalls of fixed stage. `next`, `flood` and `volume` are the
-//! formulas of `specs/NodeUpdate.antt`. What callers need besides is on the contracts: a head stays within 2·10^10 µm,
-//! and a junction's, once it is at or below the top, does not leave it.
+//! `NodeLaw::build` takes from a sound project what the answers depend on (`specs/NodeLaws.antt`), and
+//! `node_laws` does so for all nodes; the kinds of nodes that are built are those of `specs/Network.antt`:
+//! junctions without ponding and outfalls of fixed stage. `next`, `flood` and `volume` are the formulas of
+//! `specs/NodeUpdate.antt`. What callers need besides is on the contracts: a head stays within 2·10^10 µm, and
+//! a junction's, once it is at or below the top, does not leave it.
 #![tactic(auto, using(fixed_num::proofs::Bounds::casts))]
 
 mod gain;

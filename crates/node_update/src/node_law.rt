@@ -19,8 +19,8 @@ pub enum HeadRule {
     FixedOutfall,
 }
 
-/// What the next head of a node depends on: its rule, its invert (µm), its full height above that (µm), its top (µm), the
-/// least surface area (mm²) and the tolerance of the trials (µm).
+/// What the next head of a node depends on: its rule, its invert (µm), its full height above that (µm), its top
+/// (µm), the least surface area (mm²) and the tolerance of the trials (µm).
 ///
 /// Source: Reference Manual volume II, chapter 3; the ranges are this project's profile.
 #[derive(Clone, Copy, Debug)]

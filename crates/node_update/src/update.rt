@@ -5,7 +5,8 @@ ghost use Rattle.std.specs.Int.RustNames.{unsigned_abs};
 ghost use Rattle.fixed_num.specs.Ranges.{IsBetween, IsWithin, IsHead};
 ghost use Rattle.fixed_num.specs.Relaxation.{relaxed_of};
 ghost use Rattle.node_update.specs.NodeLaws.{IsNodeLaw};
-ghost use Rattle.node_update.specs.NodeUpdate.{IsNodeFixed, gain_of, junction_head, has_settled, rule_next, next_of, rule_flood, flood_of, rule_volume, volume_of};
+ghost use Rattle.node_update.specs.NodeUpdate.{IsNodeFixed, gain_of, junction_head, has_settled, rule_next};
+ghost use Rattle.node_update.specs.NodeUpdate.{next_of, rule_flood, flood_of, rule_volume, volume_of};
 ghost use Rattle.node_update.specs.declared.node_law.HeadRule.TheVariants.{Junction as JunctionRule};
 ghost use Rattle.phase_law.specs.Ranges.{SumsInRange};
 
@@ -14,8 +15,8 @@ use fixed_num::{cut, quo, relaxed};
 use phase_law::{NodeFixed, NodeNext};
 
 impl NodeLaw {
-    /// The next head of the node in a trial, and whether it has settled: from its inflow and outflow by links (cm³/s), the
-    /// surface that its links add (mm²), and `last`, the head that the trial read (µm).
+    /// The next head of the node in a trial, and whether it has settled: from its inflow and outflow by links
+    /// (cm³/s), the surface that its links add (mm²), and `last`, the head that the trial read (µm).
     ///
     /// A junction's head is raised by what it gains, held between invert and top, and from the second trial on halved
     /// with the last one. An outfall's is its stage, where that is above the invert.
@@ -46,9 +47,8 @@ impl NodeLaw {
 
     /// The water that the node loses over its top in a step, in mm³, from the numbers of the step's last trial.
     ///
-    /// It is what the junction gains beyond its top where its raised head is above that, and never below 0. `last` is of
-    /// no use as long as there is no ponding.
-    /// Source: this project's profile.
+    /// It is what the junction gains beyond its top where its raised head is above that, and never below 0.
+    /// `last` is of no use as long as there is no ponding. Source: this project's profile.
     pub fn flood(&self, fixed: &NodeFixed, inflow: i64, outflow: i64, area: i64, last: i64) -> i128
         requires law { IsNodeLaw self.now }
         requires fixed { IsNodeFixed fixed.now }
@@ -56,7 +56,8 @@ impl NodeLaw {
         ensures value { result ≡ flood_of self.now fixed.now inflow outflow area last }
         ensures range { IsBetween (pos 0) result (pos (10 ^ 25)) }
         // From a head that is not above the top no more is lost than comes in.
-        ensures most { fixed.now.h_old ≤ℤ self.now.top → result ≤ℤ pos (unsigned_abs (gain_of fixed.now inflow outflow)) }
+        ensures most { fixed.now.h_old ≤ℤ self.now.top
+            → result ≤ℤ pos (unsigned_abs (gain_of fixed.now inflow outflow)) }
     {
         match self.rule {
             HeadRule::Junction => self.junction_flood(fixed, inflow, outflow, area),

@@ -4,22 +4,25 @@ use Rattle.std.specs.Prelude.{ℕ, suc, ◌+◌, eqb, nat_lt, if◌then◌else�
 use Rattle.std.specs.Int.RustNames.{unsigned_abs}
 use Rattle.fixed_num.specs.Lists.{number}
 use Rattle.phase_law.specs.Law.{Law}
+use Rattle.phase_law.specs.declared.values.LinkFixed.{LinkFixed}
+use Rattle.phase_law.specs.declared.values.NodeFixed.{NodeFixed}
 use Rattle.phase_law.specs.declared.values.NodeNext.{NodeNext}
 use Rattle.phase_law.specs.declared.values.Share.{Share}
 use Rattle.phase_machine.specs.declared.work.Work.{Work}
 use Rattle.phase_machine.specs.Places.{first_place, link_place, node_place, is_odd, written, other, is_first}
 
 -- ---- loads
--- the places that a link's item loads in turn: old flow, old area, setting, length of the step, first trial, head at its
--- first end, head at its second end, last flow
+-- the places that a link's item loads in turn: old flow, old area, setting, length of the step, first trial, head at
+-- its first end, head at its second end, last flow
 abbrev pub link_input : Law → (buffer l k : ℕ) → ℕ
 link_input law buffer l k =
     if nat_lt k 4 then link_place l k else if eqb k 4 then first_place
-    else if eqb k 5 then node_place law (law.ends l).0 (5 + buffer) else if eqb k 6 then node_place law (law.ends l).1 (5 + buffer)
+    else if eqb k 5 then node_place law (law.ends l).0 (5 + buffer)
+    else if eqb k 6 then node_place law (law.ends l).1 (5 + buffer)
     else link_place l (4 + buffer)
 
--- the places that a node's item loads in turn: old head, old net inflow, lateral inflow, stage, length of the step, first
--- trial, last head, and then inflow, outflow and area
+-- the places that a node's item loads in turn: old head, old net inflow, lateral inflow, stage, length of the step,
+-- first trial, last head, and then inflow, outflow and area
 abbrev pub node_input : Law → (buffer n k : ℕ) → ℕ
 node_input law buffer n k =
     if nat_lt k 5 then node_place law n k else if eqb k 5 then first_place
@@ -28,17 +31,35 @@ node_input law buffer n k =
 -- the place of the next load of a seat with an item
 abbrev pub input_place : Law → Work → ℕ → ℕ
 input_place law w k =
-    if is_odd w.tag then link_input law (other (written w.tag)) w.item k else node_input law (other (written w.tag)) w.item k
+    if is_odd w.tag then link_input law (other (written w.tag)) w.item k
+    else node_input law (other (written w.tag)) w.item k
 
 -- how many inputs an item has; the sums of a node are loaded after them
 abbrev pub input_count : ℕ → ℕ
 input_count tag = if is_odd tag then 8 else 7
 
 -- ---- what the law says of what was loaded
+abbrev pub link_loads : Work → LinkFixed
+link_loads w = record {
+  q_old = number w.loaded 0;
+  a_old = number w.loaded 1;
+  setting = number w.loaded 2;
+  dt = number w.loaded 3;
+}
+
+abbrev pub node_loads : Work → NodeFixed
+node_loads w = record {
+  h_old = number w.loaded 0;
+  net_old = number w.loaded 1;
+  lateral = number w.loaded 2;
+  stage = number w.loaded 3;
+  dt = number w.loaded 4;
+}
+
 unfoldable pub share_at : Law → Work → Share
 share_at law w =
     law.share w.item
-    (record { q_old = number w.loaded 0; a_old = number w.loaded 1; setting = number w.loaded 2; dt = number w.loaded 3 })
+    (link_loads w)
     (is_first (number w.loaded 4))
     (number w.loaded 5)
     (number w.loaded 6)
@@ -47,7 +68,7 @@ share_at law w =
 unfoldable pub next_at : Law → Work → NodeNext
 next_at law w =
     law.next w.item
-    (record { h_old = number w.loaded 0; net_old = number w.loaded 1; lateral = number w.loaded 2; stage = number w.loaded 3; dt = number w.loaded 4 })
+    (node_loads w)
     (is_first (number w.loaded 5))
     (number w.loaded 7)
     (number w.loaded 8)
@@ -74,8 +95,7 @@ abbrev pub covering : ℕ → ℤ → Deposit
 covering node area = record { node = node; sum = 2; amount = unsigned_abs area }
 
 -- ---- stages
--- the stage of a link's item at which it makes its first deposit, its second, its offer, its flow, and at which it is done
--- with: 9, 10, 11, 12 are the stages of the four deposits
+-- the stages at which a link's item makes its offer and puts its flow; at 9, 10, 11 and 12 it makes its four deposits
 abbrev pub offer_stage : ℕ
 offer_stage = 13
 

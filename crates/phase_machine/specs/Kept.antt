@@ -62,7 +62,8 @@ flow_off law share words buffer k l =
     at 14 (if nat_lt l law.links then unsigned_abs (number words (link_place l (4 + buffer)) -ℤ (share l).q) else 0) k
 
 unfoldable pub head_off : Law → (ℕ → NodeNext) → List ℤ → (buffer : ℕ) → ℕ → ℕ → ℕ
-head_off law next words buffer k n = at 11 (unsigned_abs (number words (node_place law n (5 + buffer)) -ℤ (next n).head)) k
+head_off law next words buffer k n =
+    at 11 (unsigned_abs (number words (node_place law n (5 + buffer)) -ℤ (next n).head)) k
 
 -- one for each mark
 unfoldable pub marks : (ℕ → NodeNext) → ℕ → ℕ → ℕ
@@ -70,10 +71,12 @@ marks next k n = at 12 (unsettled_part (next n).settled) k
 
 -- ---- the trial of what was opened
 abbrev pub shares : Law → (opened : List ℤ) → (phase : ℕ) → ℕ → Share
-shares law opened phase = share_in law (nets_in law opened (other (written phase))) (is_first (number opened first_place))
+shares law opened phase =
+    share_in law (nets_in law opened (other (written phase))) (is_first (number opened first_place))
 
 abbrev pub with_links : Law → (opened : List ℤ) → (phase : ℕ) → Nets
-with_links law opened phase = with_flows law (nets_in law opened (other (written phase))) (is_first (number opened first_place))
+with_links law opened phase =
+    with_flows law (nets_in law opened (other (written phase))) (is_first (number opened first_place))
 
 abbrev pub nexts : Law → (opened : List ℤ) → (phase : ℕ) → ℕ → NodeNext
 nexts law opened phase = next_in law (with_links law opened phase) (is_first (number opened first_place))
@@ -113,7 +116,8 @@ pub record LinkKept (law : Law) (opened words : List ℤ) (phase : ℕ) (seats :
   pub frozen : (j : ℕ) → IsRead law (other (written phase)) j → number words j ≡ number opened j
   pub unsettled : number words unsettled_place ≡ pos 0
   pub sums : (n s : ℕ) → n < law.nodes → s < 3
-      → number words (node_place law n (7 + s)) ≡ pos (total (so_far phase (sum_parts law (shares law opened phase) n s)) seats)
+      → number words (node_place law n (7 + s))
+      ≡ pos (total (so_far phase (sum_parts law (shares law opened phase) n s)) seats)
   pub least_most : number words (least_place law) ≤ℤ pos 3_600_000
   pub least_one : (number words (least_place law) ≡ pos 3_600_000)
       ⊎ ((l : ℕ) × (l < law.links) × (number words (least_place law) ≡ (shares law opened phase l).time))
@@ -133,7 +137,8 @@ pub record NodeKept (law : Law) (opened words : List ℤ) (phase : ℕ) (seats :
 -- after a node phase was closed
 pub record TrialKept (law : Law) (c : Core) : Type 0 where
   pub trial : c.closed ≡ trial law (opened_nets law c) (opened_first c)
-  pub unsettled : c.resets ≤ 1 → number c.words unsettled_place ≡ pos (unsettled_in law (opened_nets law c) (opened_first c))
+  pub unsettled : c.resets ≤ 1
+      → number c.words unsettled_place ≡ pos (unsettled_in law (opened_nets law c) (opened_first c))
 
 -- ---- what holds of a core
 pub record Kept (law : Law) (c : Core) : Type 0 where

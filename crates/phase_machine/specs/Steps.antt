@@ -57,7 +57,8 @@ IsResting c = (c.is_open ≡ false) × (c.stopped ≡ false)
 
 -- a value for a word that the next trial reads
 abbrev pub CanSet : Law → ℕ → (word : ℕ) → ℤ → Type 0
-CanSet law phase word value = (place : ℕ) × (word ≡ place + 1) × IsRead law (written phase) place × IsInRange law place value
+CanSet law phase word value =
+    (place : ℕ) × (word ≡ place + 1) × IsRead law (written phase) place × IsInRange law place value
 
 -- what an act of the lead asks
 abbrev pub CanLead : Law → Core → Act → Type 0

@@ -2,9 +2,9 @@
 //!
 //! A trial has two phases. While the phase of links is open, workers claim links, load the words that a link reads, add
 //! the amounts of its share to the sums of its ends, offer its time and put its flow. While the phase of nodes is open,
-//! they claim nodes, load the words and the sums that a node reads, put its new head and mark it where it isn't settled.
-//! The lead opens and closes the phases, and between them resets and sets words. Each act is one step on one word, and
-//! the steps of all seats may come in any order.
+//! they claim nodes, load the words and the sums that a node reads, put its new head and mark it where it isn't
+//! settled. The lead opens and closes the phases, and between them resets and sets words. Each act is one step on one
+//! word, and the steps of all seats may come in any order.
 //!
 //! The words are in `specs/Places.antt`, the core of the machine and its start in `specs/Core.antt`, what an item loads
 //! and makes in `specs/Items.antt`, when an act has a step and what it does in `specs/Steps.antt`.

@@ -1,8 +1,10 @@
 -- The first hundred of a list that grows.
-use Rattle.std.proofs.Common.{◌≡◌, ◌∙◌, ℕ, ◌+◌, ◌≤◌, ◌<◌, List, [], ◌∷◌, ◌++◌, length, take, get_or, flat_map, length-append, append-nil, refl, ap, sym, rules, inl, inr, arith}
+use Rattle.std.proofs.Common.{◌≡◌, ◌∙◌, ℕ, ◌+◌, ◌≤◌, ◌<◌, List, [], ◌∷◌, ◌++◌, length, take, get_or}
+use Rattle.std.proofs.Common.{flat_map, length-append, append-nil, refl, ap, sym, rules, inl, inr, arith}
 use Rattle.std.specs.List.{range_with_len}
 use Rattle.std.proofs.lemmas.Bool.{cases_lt}
-use Rattle.std.proofs.lemmas.List.{flat_map_more, length-take, length-take-le, take_all, take_at, take_more, take-append-le}
+use Rattle.std.proofs.lemmas.List.{flat_map_more, length-take, length-take-le}
+use Rattle.std.proofs.lemmas.List.{take_all, take_at, take_more, take-append-le}
 use Rattle.std.proofs.lemmas.List.FromFn.{get_or-range_with_len, length-range_with_len}
 
 -- what is cut once may be cut again after more is appended

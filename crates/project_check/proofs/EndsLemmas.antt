@@ -1,5 +1,7 @@
 -- The ends of links at a node, with one link more, and their ranges.
-use Rattle.std.proofs.Common.{◌≡◌, ◌∙◌, ℕ, zero, suc, ◌+◌, ◌*◌, ◌^◌, ◌≤◌, ◌<◌, ◌==◌, eqb, Bool, true, false, cond, List, [], ◌∷◌, ◌++◌, length, replicate, take, drop, map, get_or, IfSome, Option, Some, None, ℤ, pos, ◌+ℤ◌, ◌≤ℤ◌, sum_by, refl, ap, sym, subst, arith}
+use Rattle.std.proofs.Common.{◌≡◌, ◌∙◌, ℕ, zero, suc, ◌+◌, ◌*◌, ◌^◌, ◌≤◌, ◌<◌, ◌==◌, eqb, Bool, true, false}
+use Rattle.std.proofs.Common.{cond, List, [], ◌∷◌, ◌++◌, length, replicate, take, drop, map, get_or, IfSome}
+use Rattle.std.proofs.Common.{Option, Some, None, ℤ, pos, ◌+ℤ◌, ◌≤ℤ◌, sum_by, refl, ap, sym, subst, arith}
 use Rattle.std.specs.Int.{int_max}
 use Rattle.std.specs.List.{All}
 use Rattle.std.proofs.lemmas.Int.{ints, clamps}
@@ -20,7 +22,8 @@ use Rattle.net_types.specs.Records.{no_node, node_at}
 use Rattle.net_types.specs.Sound.{IsSound}
 use Rattle.project_check.specs.declared.ends.NodeEnds.{NodeEnds}
 use Rattle.project_check.specs.Ends.{ends_of, no_ends, node_ends_at, with_end, with_link}
-use Rattle.project_check.specs.FullHeight.{conduit_height, end_top, first_offset, full_height_of, greatest_of, highest_top, kind_height, link_top, second_offset, section_height}
+use Rattle.project_check.specs.FullHeight.{conduit_height, end_top, first_offset, full_height_of, greatest_of}
+use Rattle.project_check.specs.FullHeight.{highest_top, kind_height, link_top, second_offset, section_height}
 use Rattle.project_check.specs.Network.{end_at, ends_at, link_ends, links_from}
 use Rattle.project_check.proofs.GreatestLemmas.{greatest_found}
 use Rattle.project_check.proofs.HeightLemmas.{greatest_more}

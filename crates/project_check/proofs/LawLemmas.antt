@@ -1,9 +1,12 @@
 -- A project without faults is good, and a good one has none.
-use Rattle.std.proofs.Common.{◌≡◌, ◌∙◌, ℕ, zero, suc, ◌+◌, ◌<◌, ◌≤◌, nat_le, ◌==◌, Bool, true, false, not, ◌&&◌, ◌||◌, cond, List, [], ◌∷◌, ◌++◌, length, take, get_or, flat_map, IsTrue, IsSome, IfSome, Option, Some, None, ℤ, pos, ◌≤ℤ◌, ◌<ℤ◌, refl, ap, sym, subst, arith}
+use Rattle.std.proofs.Common.{◌≡◌, ◌∙◌, ℕ, zero, suc, ◌+◌, ◌<◌, ◌≤◌, nat_le, ◌==◌, Bool, true, false, not, ◌&&◌}
+use Rattle.std.proofs.Common.{◌||◌, cond, List, [], ◌∷◌, ◌++◌, length, take, get_or, flat_map, IsTrue, IsSome}
+use Rattle.std.proofs.Common.{IfSome, Option, Some, None, ℤ, pos, ◌≤ℤ◌, ◌<ℤ◌, refl, ap, sym, subst, arith}
 use Rattle.std.specs.Prelude.{int_le, int_lt}
 use Rattle.std.specs.Bool.{Decides, ⊤}
 use Rattle.std.specs.List.{All, range_with_len}
-use Rattle.std.proofs.lemmas.Bool.Decides.{Decides-and, Decides-or, Decides-not, Decides-int_eq, Decides-eqb, Decides-like, nat_tests}
+use Rattle.std.proofs.lemmas.Bool.Decides.{Decides-and, Decides-or, Decides-not, Decides-int_eq}
+use Rattle.std.proofs.lemmas.Bool.Decides.{Decides-eqb, Decides-like, nat_tests}
 use Rattle.std.proofs.lemmas.Int.{ints}
 use Rattle.std.proofs.lemmas.List.Elements.{All-nil, All-cons, All-head, All-tail}
 use Rattle.std.proofs.lemmas.List.Concat.{flat_map-cons}
@@ -26,12 +29,17 @@ use Rattle.net_types.specs.Records.{node_at}
 use Rattle.net_types.specs.Sound.{IsSound}
 use Rattle.project_check.specs.declared.ends.NodeEnds.{NodeEnds}
 use Rattle.project_check.specs.Ends.{ends_of}
-use Rattle.project_check.specs.Faultless.{IsFaultless, HasGoodTimes, IsGoodNode, IsGoodSection, IsGoodLink, HasGoodRates, IsGoodSub, IsGood}
+use Rattle.project_check.specs.Faultless.{IsFaultless, HasGoodTimes, IsGoodNode, IsGoodSection}
+use Rattle.project_check.specs.Faultless.{IsGoodLink, HasGoodRates, IsGoodSub, IsGood}
 use Rattle.project_check.specs.FullHeight.{kind_height, full_height_of}
 use Rattle.project_check.specs.Network.{has_outfall, is_outfall, is_storage, link_ends, links_from}
-use Rattle.project_check.specs.Objects.{has_wrong_links, begins_too_high, is_too_shallow, node_fault, fits_kind, needs_none, section_area, has_good_area, has_good_section, is_good_link, has_good_rates, has_good_infiltration, has_runoff, is_good_sub}
-use Rattle.project_check.specs.ProjectFaults.{fault_where, fault_if, general_faults, node_faults, link_faults, sub_faults, all_faults, project_faults}
-use Rattle.project_check.specs.Times.{EndsBeforeStart, IsOverLimit, ends_before_start, is_over_limit, duration, longest, most_steps_time}
+use Rattle.project_check.specs.Objects.{has_wrong_links, begins_too_high, is_too_shallow, node_fault, fits_kind}
+use Rattle.project_check.specs.Objects.{needs_none, section_area, has_good_area, has_good_section, is_good_link}
+use Rattle.project_check.specs.Objects.{has_good_rates, has_good_infiltration, has_runoff, is_good_sub}
+use Rattle.project_check.specs.ProjectFaults.{fault_where, fault_if, general_faults, node_faults}
+use Rattle.project_check.specs.ProjectFaults.{link_faults, sub_faults, all_faults, project_faults}
+use Rattle.project_check.specs.Times.{EndsBeforeStart, IsOverLimit, ends_before_start}
+use Rattle.project_check.specs.Times.{is_over_limit, duration, longest, most_steps_time}
 
 -- ---- lists of nothing
 cut_none : {A : Type 0} (xs : List A) → take 100 xs ≡ [] → xs ≡ []

@@ -8,7 +8,8 @@ use Rattle.project_check.specs.Network.{link_ends, links_from}
 
 -- the ends of links at a node, the links that begin there, and the highest top of its conduits
 abbrev pub ends_of : List Link → ℕ → NodeEnds
-ends_of links node = record { ends = link_ends links node; begins = links_from links node; top = highest_top node links }
+ends_of links node =
+    record { ends = link_ends links node; begins = links_from links node; top = highest_top node links }
 
 abbrev pub no_ends : NodeEnds
 no_ends = record { ends = 0; begins = 0; top = pos 0 }
@@ -22,9 +23,11 @@ with_end e begins top = record { ends = e.ends + 1; begins = e.begins + begins; 
 
 -- the same at a node, with both ends of a link
 abbrev pub with_first : NodeEnds → Link → ℕ → NodeEnds
-with_first e link n = if n == link.first then with_end e 1 (first_offset link.kind +ℤ conduit_height link.kind link.section) else e
+with_first e link n =
+    if n == link.first then with_end e 1 (first_offset link.kind +ℤ conduit_height link.kind link.section) else e
 
 abbrev pub with_link : NodeEnds → Link → ℕ → NodeEnds
 with_link e link n =
     let first = with_first e link n in
-    if n == link.second then with_end first 0 (second_offset link.kind +ℤ conduit_height link.kind link.section) else first
+    if n == link.second then with_end first 0 (second_offset link.kind +ℤ conduit_height link.kind link.section)
+    else first

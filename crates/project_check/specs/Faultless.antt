@@ -30,7 +30,8 @@ pub record HasGoodTimes (options : Options) : Type 0 where
   pub order : ¬ (EndsBeforeStart options)
   pub limit : ¬ (IsOverLimit options)
 
--- an outfall has at most one link, which ends there; a node begins no higher than full; a storage is at least 1,000 µm deep
+-- an outfall has at most one link, which ends there; a node begins no higher than full; a storage is at least
+-- 1,000 µm deep
 pub record IsGoodNode (project : Project) (k : ℕ) : Type 0 where
   pub one_link : IsTrue (is_outfall (node_at project.nodes k)) → link_ends project.links k ≤ 1
   pub ends_there : IsTrue (is_outfall (node_at project.nodes k)) → links_from project.links k ≡ 0

@@ -1,5 +1,6 @@
 -- The full height of a node: how high it stands full above its invert (Reference Manual volume II, chapter 3).
-use Rattle.std.specs.Prelude.{◌≡◌, ℕ, eqb, if◌then◌else◌, List, [], ◌∷◌, map, Option, Some, None, ℤ, pos, ◌+ℤ◌, ◌≤ℤ◌, ◌⊎◌}
+use Rattle.std.specs.Prelude.{◌≡◌, ℕ, eqb, if◌then◌else◌, List, [], ◌∷◌, map}
+use Rattle.std.specs.Prelude.{Option, Some, None, ℤ, pos, ◌+ℤ◌, ◌≤ℤ◌, ◌⊎◌}
 use Rattle.std.specs.Int.{int_max}
 use Rattle.std.specs.List.{All, Contains}
 use Rattle.net_types.specs.declared.network.Link.{Link}

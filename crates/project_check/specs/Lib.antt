@@ -5,4 +5,3 @@ pub mod Ends
 pub mod Objects
 pub mod ProjectFaults
 pub mod Faultless
-pub mod Tables

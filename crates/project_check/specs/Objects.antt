@@ -1,6 +1,7 @@
--- The faults of the nodes, links and subcatchments of a project (User's Manual, appendix E, for 138 and 141; the others are
--- this project's profile).
-use Rattle.std.specs.Prelude.{◌≡◌, ℕ, ◌≤◌, ◌==◌, nat_le, Bool, true, false, not, ◌&&◌, ◌||◌, if◌then◌else◌, Option, Some, None, ℤ, pos, ◌≤ℤ◌, int_le, int_lt, IsTrue}
+-- The faults of the nodes, links and subcatchments of a project (User's Manual, appendix E, for 138 and 141;
+-- the others are this project's profile).
+use Rattle.std.specs.Prelude.{◌≡◌, ℕ, ◌≤◌, ◌==◌, nat_le, Bool, true, false, not, ◌&&◌, ◌||◌}
+use Rattle.std.specs.Prelude.{if◌then◌else◌, Option, Some, None, ℤ, pos, ◌≤ℤ◌, int_le, int_lt, IsTrue}
 use Rattle.std.specs.Bool.{⊤}
 use Rattle.std.specs.Ordering.{int_eq}
 use Rattle.net_types.specs.declared.faults.FaultKind.{FaultKind}
@@ -86,7 +87,8 @@ unfoldable pub section_area : Section → ℤ
 section_area section = full_area (table_of section)
 
 abbrev pub has_good_area : Section → Bool
-has_good_area section = not (int_eq (section_area section) (pos 0)) && int_le (section_area section) (pos 100_000_000_000)
+has_good_area section =
+    not (int_eq (section_area section) (pos 0)) && int_le (section_area section) (pos 100_000_000_000)
 
 -- a link has the section that it needs, of a shape that fits it and of a good area
 abbrev pub has_good_section : LinkKind → Option Section → Bool

@@ -1,6 +1,7 @@
--- The faults of a project (User's Manual, appendix E; the limits, the order and the numbers from 401 on are this project's
--- profile).
-use Rattle.std.specs.Prelude.{ℕ, Bool, not, if◌then◌else◌, List, [], ◌∷◌, ◌++◌, length, take, flat_map, Option, Some, None}
+-- The faults of a project (User's Manual, appendix E; the limits, the order and the numbers from 401 on are
+-- this project's profile).
+use Rattle.std.specs.Prelude.{ℕ, Bool, not, if◌then◌else◌, List, [], ◌∷◌, ◌++◌}
+use Rattle.std.specs.Prelude.{length, take, flat_map, Option, Some, None}
 use Rattle.std.specs.List.{range_with_len}
 use Rattle.net_types.specs.declared.faults.FaultKind.{FaultKind}
 use Rattle.net_types.specs.declared.faults.FaultKind.TheVariants.{NoOutfall, EndBeforeStart, OverLimit, BadObject}
@@ -36,7 +37,8 @@ general_faults project =
 
 -- at most one fault of each node, link and subcatchment
 abbrev pub node_faults : Project → ℕ → List ProjectFault
-node_faults project k = let node = node_at project.nodes k in fault_if (node_fault node (ends_of project.links k)) node.name
+node_faults project k =
+    let node = node_at project.nodes k in fault_if (node_fault node (ends_of project.links k)) node.name
 
 abbrev pub link_faults : Link → List ProjectFault
 link_faults link = fault_where (not (is_good_link link)) BadObject link.name

@@ -1,12 +1,14 @@
 // What the links of a project have at each node, by one walk over the links.
-ghost use Rattle.std.specs.Prelude.{◌≡◌, ℕ, ◌+◌, ◌*◌, ◌^◌, ◌≤◌, ◌<◌, ◌==◌, if◌then◌else◌, List as Sequence, length, replicate, IfOk, IfSome, pos};
+ghost use Rattle.std.specs.Prelude.{◌≡◌, ℕ, ◌+◌, ◌*◌, ◌^◌, ◌≤◌, ◌<◌, ◌==◌, if◌then◌else◌};
+ghost use Rattle.std.specs.Prelude.{List as Sequence, length, replicate, IfOk, IfSome, pos};
 ghost use Rattle.std.specs.List.{All};
 ghost use Rattle.fixed_num.specs.Lists.{list_of};
 ghost use Rattle.fixed_num.specs.Ranges.{IsBetween, IsDepth};
 ghost use Rattle.net_types.specs.Ranges.{LinkInRange, LinkKindInRange, SectionInRange};
 ghost use Rattle.net_types.specs.Sound.{IsSound};
 ghost use Rattle.project_check.specs.Ends.{ends_of, no_ends, node_ends_at, with_end, with_link};
-ghost use Rattle.project_check.specs.FullHeight.{conduit_height, first_offset, full_height_of, kind_height, second_offset, section_height};
+ghost use Rattle.project_check.specs.FullHeight.{conduit_height, first_offset, full_height_of};
+ghost use Rattle.project_check.specs.FullHeight.{kind_height, second_offset, section_height};
 
 use net_types::{Link, LinkKind, List, NodeKind, OutOfMemory, Project, Section};
 use std::alloc::Global;
@@ -24,7 +26,8 @@ pub struct NodeEnds {
 pub fn node_ends(alloc: Global, project: &Project) -> Result<List<NodeEnds>, OutOfMemory>
     requires { IsSound project.now }
     ensures count { IfOk result (λ list. length list ≡ length project.now.nodes) }
-    ensures each { IfOk result (λ list. (n : ℕ) → n < length project.now.nodes → node_ends_at list n ≡ ends_of project.now.links n) }
+    ensures each { IfOk result
+        (λ list. (n : ℕ) → n < length project.now.nodes → node_ends_at list n ≡ ends_of project.now.links n) }
     ensures tops { IfOk result (λ list. (n : ℕ) → IsBetween (pos 0) (node_ends_at list n).top (pos (2 * 10 ^ 9))) }
 {
     let mut list = room(alloc, project.nodes.as_slice().len())?;
@@ -112,7 +115,8 @@ fn add_end(ends: &mut [NodeEnds], node: u32, begins: u32, top: i64)
     requires few { (n : ℕ) → (node_ends_at ends.old n).ends ≤ 39_999 }
     requires few_begins { (n : ℕ) → (node_ends_at ends.old n).begins ≤ 39_999 }
     requires begins { begins ≤ 1 }
-    ensures { (n : ℕ) → node_ends_at ends.new n ≡ (if n == node then with_end (node_ends_at ends.old n) begins top else node_ends_at ends.old n) }
+    ensures { (n : ℕ) → node_ends_at ends.new n
+        ≡ (if n == node then with_end (node_ends_at ends.old n) begins top else node_ends_at ends.old n) }
 {
     let place = node as usize;
     let at = ends[place];

@@ -2,7 +2,6 @@
 ghost use Rattle.std.specs.Prelude.{◌≡◌, ◌++◌, ◌∷◌, [], ◌≤◌, not, length, take, IfOk, OnOk};
 ghost use Rattle.net_types.specs.Sound.{IsSound};
 ghost use Rattle.project_check.specs.ProjectFaults.{fault_of, fault_where, general_faults, project_faults};
-ghost use Rattle.project_check.specs.Tables.{HasTables};
 
 use crate::ends::node_ends;
 use crate::links::check_links;
@@ -27,8 +26,7 @@ const MOST_FAULTS: usize = 100;
 ///
 /// Source: User's Manual, appendix E (138, 141, 145, 191); the others and the limits are this project's profile.
 pub fn check(alloc: Global, project: &Project) -> Result<List<ProjectFault>, OutOfMemory>
-    requires sound { IsSound project.now }
-    requires tables { HasTables project.now }
+    requires { IsSound project.now }
     ensures { IfOk result (λ faults. faults ≡ project_faults project.now) }
 {
     let mut faults = List::new(alloc);

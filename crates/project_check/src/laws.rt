@@ -8,7 +8,8 @@ ghost use Rattle.project_check.specs.FullHeight.{IsGreatest, greatest_of};
 ghost use Rattle.project_check.specs.Network.{HasOutfall, has_outfall as has_an_outfall};
 ghost use Rattle.project_check.specs.ProjectFaults.{project_faults};
 ghost use Rattle.net_types.specs.Sound.{IsSound};
-ghost use Rattle.project_check.specs.Times.{EndsBeforeStart, IsOverLimit, ends_before_start as is_early, is_over_limit as is_too_long};
+ghost use Rattle.project_check.specs.Times.{EndsBeforeStart, IsOverLimit, ends_before_start as is_early};
+ghost use Rattle.project_check.specs.Times.{is_over_limit as is_too_long};
 
 /// Each test of a whole project is true exactly where the fact that it is named for holds.
 pub fn tests_tell_facts()

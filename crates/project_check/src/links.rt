@@ -2,9 +2,10 @@
 ghost use Rattle.std.specs.Prelude.{◌≡◌, ◌++◌, ◌≤◌, length, take, flat_map, IfSome, OnOk};
 ghost use Rattle.std.specs.List.{All};
 ghost use Rattle.net_types.specs.Ranges.{LinkInRange, SectionInRange};
-ghost use Rattle.project_check.specs.Objects.{fits_kind, has_good_area, has_good_section, is_good_link, is_orifice_shape, is_rect_open, is_triangular, needs_none, section_area as area_of_section};
+ghost use Rattle.project_check.specs.Objects.{fits_kind, has_good_area, has_good_section};
+ghost use Rattle.project_check.specs.Objects.{is_good_link, is_orifice_shape, is_rect_open};
+ghost use Rattle.project_check.specs.Objects.{is_triangular, needs_none, section_area as area_of_section};
 ghost use Rattle.project_check.specs.ProjectFaults.{link_faults};
-ghost use Rattle.project_check.specs.Tables.{HasRows, HasTable};
 
 use crate::faults::add_fault;
 use net_types::{FaultKind, Link, LinkKind, List, OutOfMemory, ProjectFault, Section, Shape};
@@ -22,7 +23,6 @@ pub(crate) fn check_links(
 ) -> Result<(), OutOfMemory>
     requires room { length faults.old ≤ 100 }
     requires ranges { All LinkInRange links.now }
-    requires tables { All HasTable links.now }
     ensures { OnOk result (faults.new ≡ take 100 (faults.old ++ flat_map link_faults links.now)) }
 {
     for link in links {
@@ -39,7 +39,6 @@ fn check_link(
 ) -> Result<(), OutOfMemory>
     requires room { length faults.old ≤ 100 }
     requires range { LinkInRange link.now }
-    requires table { HasTable link.now }
     ensures { OnOk result (faults.new ≡ take 100 (faults.old ++ link_faults link.now)) }
 {
     if is_good_link(link) {
@@ -50,8 +49,7 @@ fn check_link(
 
 #[tactic(auto, unfolding(crate::specs::Objects::is_good_link))]
 fn is_good_link(link: &Link) -> bool
-    requires range { LinkInRange link.now }
-    requires table { HasTable link.now }
+    requires { LinkInRange link.now }
     ensures { result ≡ is_good_link link.now }
 {
     link.first != link.second && has_good_section(&link.kind, &link.section)
@@ -59,8 +57,7 @@ fn is_good_link(link: &Link) -> bool
 
 // Whether a link has the section that it needs, of a good shape and area.
 fn has_good_section(kind: &LinkKind, section: &Option<Section>) -> bool
-    requires range { IfSome section.now SectionInRange }
-    requires table { IfSome section.now HasRows }
+    requires { IfSome section.now SectionInRange }
     ensures { result ≡ has_good_section kind.now section.now }
 {
     match section {
@@ -105,8 +102,7 @@ fn is_rect_open(shape: &Shape) -> bool
 }
 
 fn has_good_area(section: &Section) -> bool
-    requires range { SectionInRange section.now }
-    requires table { HasRows section.now }
+    requires { SectionInRange section.now }
     ensures { result ≡ has_good_area section.now }
 {
     let area = section_area(section);
@@ -116,8 +112,7 @@ fn has_good_area(section: &Section) -> bool
 // The area of a full section, in mm².
 #[tactic(auto, unfolding(crate::specs::Objects::section_area))]
 fn section_area(section: &Section) -> i64
-    requires range { SectionInRange section.now }
-    requires table { HasRows section.now }
+    requires { SectionInRange section.now }
     ensures { result ≡ area_of_section section.now }
 {
     Table::build(section).full_area()

@@ -24,8 +24,10 @@ pub(crate) fn check_nodes(
 ) -> Result<(), OutOfMemory>
     requires room { length faults.old ≤ 100 }
     requires count { length ends.now ≡ length nodes.now }
-    ensures { (project : WholeProject) → project.nodes ≡ nodes.now → ((n : ℕ) → n < length nodes.now → node_ends_at ends.now n ≡ ends_of project.links n)
-        → OnOk result (faults.new ≡ take 100 (faults.old ++ flat_map (node_faults project) (range_with_len 0 (length nodes.now)))) }
+    ensures { (project : WholeProject) → project.nodes ≡ nodes.now
+        → ((n : ℕ) → n < length nodes.now → node_ends_at ends.now n ≡ ends_of project.links n)
+        → OnOk result (faults.new
+        ≡ take 100 (faults.old ++ flat_map (node_faults project) (range_with_len 0 (length nodes.now)))) }
 {
     for n in 0..nodes.len() {
         check_node(alloc, &nodes[n], &ends[n], faults)?;
@@ -41,7 +43,8 @@ fn check_node(
     faults: &mut List<ProjectFault>,
 ) -> Result<(), OutOfMemory>
     requires room { length faults.old ≤ 100 }
-    ensures { OnOk result (faults.new ≡ take 100 (faults.old ++ fault_if (node_fault node.now ends.now) node.now.name)) }
+    ensures { OnOk result (faults.new
+        ≡ take 100 (faults.old ++ fault_if (node_fault node.now ends.now) node.now.name)) }
 {
     match node_fault(node, ends) {
         Some(kind) => add_fault(alloc, faults, kind, &node.name),

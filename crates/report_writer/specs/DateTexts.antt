@@ -10,7 +10,8 @@ use Rattle.report_writer.specs.Texts.{joined}
 
 -- a day as yyyy-mm-dd
 abbrev pub civil_text : Civil → List ℕ
-civil_text civil = joined (last_digits 4 civil.year ∷ codes "-" ∷ last_digits 2 civil.month ∷ codes "-" ∷ last_digits 2 civil.day ∷ [])
+civil_text civil = joined (last_digits 4 civil.year ∷ codes "-" ∷
+    last_digits 2 civil.month ∷ codes "-" ∷ last_digits 2 civil.day ∷ [])
 
 -- the day of a moment, which is in ms from 1970-01-01 00:00:00
 unfoldable pub date_text : ℤ → List ℕ
@@ -18,7 +19,8 @@ date_text moment = civil_text (civil_on (day_at moment))
 
 -- ms since midnight as hh:mm:ss
 abbrev pub clock_text : ℕ → List ℕ
-clock_text ms = joined (last_digits 2 (ms / 3_600_000) ∷ codes ":" ∷ last_digits 2 (ms / 60_000 % 60) ∷ codes ":" ∷ last_digits 2 (ms / 1_000 % 60) ∷ [])
+clock_text ms = joined (last_digits 2 (ms / 3_600_000) ∷ codes ":" ∷
+    last_digits 2 (ms / 60_000 % 60) ∷ codes ":" ∷ last_digits 2 (ms / 1_000 % 60) ∷ [])
 
 -- the time of day of a moment
 unfoldable pub time_text : ℤ → List ℕ

@@ -29,7 +29,8 @@ fault_tail words text = (codes ": " ++ words) ++ (after_blank text ++ codes "\n"
 
 -- the report line of a fault of a line: its number, its line, what it says, and the token
 unfoldable pub line_fault_line : LineFault → List ℕ
-line_fault_line fault = labelled (codes "ERROR ") fault.number ++ (labelled (codes " line ") fault.line ++ fault_tail (fault_words fault.number) fault.token)
+line_fault_line fault = labelled (codes "ERROR ") fault.number
+    ++ (labelled (codes " line ") fault.line ++ fault_tail (fault_words fault.number) fault.token)
 
 -- the report line of a fault of a project: its number, what it says, and the object's name
 unfoldable pub project_fault_line : ProjectFault → List ℕ

@@ -12,10 +12,13 @@ use Rattle.report_writer.specs.Texts.{lines_of}
 -- what stands before the figures of a run: the title, the warnings and the options
 unfoldable pub head_of : Project → List ℕ
 head_of project =
-    codes "SWMM5-FX REPORT\n" ++ (lines_of project.title ++ (lines_of project.warnings ++ options_section project.options))
+    codes "SWMM5-FX REPORT\n" ++ (lines_of project.title
+    ++ (lines_of project.warnings ++ options_section project.options))
 
 -- the figures of a run: its volumes, what it came to at each node and in each link, and its counts
-unfoldable pub tail_of : Project → StepAccount → (nodes : List NodeSummary) → (links : List LinkSummary) → RunCounts → List ℕ
+unfoldable pub tail_of : Project → StepAccount → (nodes : List NodeSummary)
+    → (links : List LinkSummary) → RunCounts → List ℕ
 tail_of project total nodes links counts =
     let units = project.options.units in
-    continuity_section total ++ (node_section units project.nodes nodes ++ (link_section units project.links links ++ steps_section counts))
+    continuity_section total ++ (node_section units project.nodes nodes
+    ++ (link_section units project.links links ++ steps_section counts))

@@ -31,8 +31,10 @@ link_line unit pair = peak_line unit pair.0.name pair.1.max_flow pair.1.at pair.
 
 -- a line for each node that has a summary beside it
 unfoldable pub node_section : FlowUnits → List Node → List NodeSummary → List ℕ
-node_section units nodes summaries = codes "\nNode Depth Summary\n" ++ flat_map (node_line (unit_for units Elevation)) (zip nodes summaries)
+node_section units nodes summaries =
+    codes "\nNode Depth Summary\n" ++ flat_map (node_line (unit_for units Elevation)) (zip nodes summaries)
 
 -- a line for each link that has a summary beside it
 unfoldable pub link_section : FlowUnits → List Link → List LinkSummary → List ℕ
-link_section units links summaries = codes "\nLink Flow Summary\n" ++ flat_map (link_line (unit_for units Flow)) (zip links summaries)
+link_section units links summaries =
+    codes "\nLink Flow Summary\n" ++ flat_map (link_line (unit_for units Flow)) (zip links summaries)

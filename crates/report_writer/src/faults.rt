@@ -3,7 +3,9 @@ ghost use Rattle.std.specs.Prelude.{◌≡◌, ◌∷◌, ◌++◌, [], codes};
 ghost use Rattle.std.specs.List.{flat_map};
 ghost use Rattle.fault_ports.specs.Causes.{HasCause};
 ghost use Rattle.fault_ports.specs.Output.{Puts};
-ghost use Rattle.report_writer.specs.FaultReports.{after_blank, fault_tail, fault_words, input_too_long_report, labelled, line_fault_line, line_faults_report, project_fault_line, project_faults_report};
+ghost use Rattle.report_writer.specs.FaultReports.{after_blank, fault_tail, fault_words, input_too_long_report};
+ghost use Rattle.report_writer.specs.FaultReports.{labelled, line_fault_line, line_faults_report};
+ghost use Rattle.report_writer.specs.FaultReports.{project_fault_line, project_faults_report};
 
 use fault_ports::{Failed, Sink, put_all};
 use itoa::Buffer;
@@ -51,7 +53,8 @@ pub fn put_input_too_long<W: Sink>(to: &mut W) -> Result<(), Failed>
 
 /// The report of a project without an outfall, as an input of no bytes has it, byte for byte.
 pub fn empty_input_report()
-    ensures { project_faults_report (record { number = 145; name = [] } ∷ []) ≡ codes "SWMM5-FX REPORT\n\nInput Faults\nERROR 145: no outfall\n" }
+    ensures { project_faults_report (record { number = 145; name = [] } ∷ [])
+        ≡ codes "SWMM5-FX REPORT\n\nInput Faults\nERROR 145: no outfall\n" }
 {}
 
 fn put_line_fault_lines<W: Sink>(to: &mut W, faults: &[LineFault]) -> Result<(), Failed>
@@ -93,7 +96,9 @@ fn put_line_fault<W: Sink>(to: &mut W, fault: &LineFault) -> Result<(), Failed>
 
 // Puts the line of a fault, and its end.
 fn put_line_fault_end<W: Sink>(to: &mut W, fault: &LineFault) -> Result<(), Failed>
-    ensures bytes { Puts (W.held to.old) (W.held to.new) (labelled (codes " line ") fault.now.line ++ fault_tail (fault_words fault.now.number) fault.now.token) result }
+    ensures bytes { Puts (W.held to.old) (W.held to.new)
+        (labelled (codes " line ") fault.now.line
+        ++ fault_tail (fault_words fault.now.number) fault.now.token) result }
     ensures cause { HasCause (W.faults to.old) (W.faults to.new) result }
 {
     match put_labelled(to, b" line ", fault.line) {
@@ -103,7 +108,8 @@ fn put_line_fault_end<W: Sink>(to: &mut W, fault: &LineFault) -> Result<(), Fail
 }
 
 fn put_line_fault_tail<W: Sink>(to: &mut W, fault: &LineFault) -> Result<(), Failed>
-    ensures bytes { Puts (W.held to.old) (W.held to.new) (fault_tail (fault_words fault.now.number) fault.now.token) result }
+    ensures bytes { Puts (W.held to.old) (W.held to.new)
+        (fault_tail (fault_words fault.now.number) fault.now.token) result }
     ensures cause { HasCause (W.faults to.old) (W.faults to.new) result }
 {
     put_fault_tail(to, fault_words(fault.number), fault.token.as_slice())
@@ -121,7 +127,8 @@ fn put_project_fault<W: Sink>(to: &mut W, fault: &ProjectFault) -> Result<(), Fa
 }
 
 fn put_project_fault_tail<W: Sink>(to: &mut W, fault: &ProjectFault) -> Result<(), Failed>
-    ensures bytes { Puts (W.held to.old) (W.held to.new) (fault_tail (fault_words fault.now.number) fault.now.name) result }
+    ensures bytes { Puts (W.held to.old) (W.held to.new)
+        (fault_tail (fault_words fault.now.number) fault.now.name) result }
     ensures cause { HasCause (W.faults to.old) (W.faults to.new) result }
 {
     put_fault_tail(to, fault_words(fault.number), fault.name.as_slice())

@@ -29,7 +29,9 @@ pub fn put_head<W: Sink>(to: &mut W, project: &Project) -> Result<(), Failed>
 // Puts the title lines, and what comes after them.
 fn put_title<W: Sink>(to: &mut W, project: &Project) -> Result<(), Failed>
     requires dates { HasCalendarDates project.now.options }
-    ensures bytes { Puts (W.held to.old) (W.held to.new) (lines_of project.now.title ++ (lines_of project.now.warnings ++ options_section project.now.options)) result }
+    ensures bytes { Puts (W.held to.old) (W.held to.new)
+        (lines_of project.now.title ++ (lines_of project.now.warnings
+        ++ options_section project.now.options)) result }
     ensures cause { HasCause (W.faults to.old) (W.faults to.new) result }
 {
     let title = project.title.as_slice();
@@ -42,7 +44,8 @@ fn put_title<W: Sink>(to: &mut W, project: &Project) -> Result<(), Failed>
 // Puts the warnings, and what comes after them.
 fn put_warnings<W: Sink>(to: &mut W, project: &Project) -> Result<(), Failed>
     requires dates { HasCalendarDates project.now.options }
-    ensures bytes { Puts (W.held to.old) (W.held to.new) (lines_of project.now.warnings ++ options_section project.now.options) result }
+    ensures bytes { Puts (W.held to.old) (W.held to.new)
+        (lines_of project.now.warnings ++ options_section project.now.options) result }
     ensures cause { HasCause (W.faults to.old) (W.faults to.new) result }
 {
     let warnings = project.warnings.as_slice();

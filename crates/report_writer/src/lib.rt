@@ -12,11 +12,7 @@ mod dates;
 mod faults;
 mod head;
 mod peaks;
-#[cfg(test)]
-mod run_tests;
 mod tail;
-#[cfg(test)]
-mod tests;
 
 pub use accepted::put_accepted;
 pub use counts::RunCounts;

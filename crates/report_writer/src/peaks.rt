@@ -21,7 +21,8 @@ pub(crate) fn put_node_depths<W: Sink>(
     project: &Project,
     summaries: &[NodeSummary],
 ) -> Result<(), Failed>
-    ensures bytes { Puts (W.held to.old) (W.held to.new) (node_section project.now.options.units project.now.nodes summaries.now) result }
+    ensures bytes { Puts (W.held to.old) (W.held to.new)
+        (node_section project.now.options.units project.now.nodes summaries.now) result }
     ensures cause { HasCause (W.faults to.old) (W.faults to.new) result }
 {
     let unit = unit_of(project.options.units, Quantity::Elevation);
@@ -39,7 +40,8 @@ pub(crate) fn put_link_flows<W: Sink>(
     project: &Project,
     summaries: &[LinkSummary],
 ) -> Result<(), Failed>
-    ensures bytes { Puts (W.held to.old) (W.held to.new) (link_section project.now.options.units project.now.links summaries.now) result }
+    ensures bytes { Puts (W.held to.old) (W.held to.new)
+        (link_section project.now.options.units project.now.links summaries.now) result }
     ensures cause { HasCause (W.faults to.old) (W.faults to.new) result }
 {
     let unit = unit_of(project.options.units, Quantity::Flow);
@@ -57,7 +59,8 @@ fn put_node_lines<W: Sink>(
     summaries: &[NodeSummary],
 ) -> Result<(), Failed>
     requires { IsUnit unit.now }
-    ensures bytes { Puts (W.held to.old) (W.held to.new) (flat_map (node_line unit.now) (zip nodes.now summaries.now)) result }
+    ensures bytes { Puts (W.held to.old) (W.held to.new)
+        (flat_map (node_line unit.now) (zip nodes.now summaries.now)) result }
     ensures cause { HasCause (W.faults to.old) (W.faults to.new) result }
 {
     for (node, summary) in nodes.iter().zip(summaries) {
@@ -76,7 +79,8 @@ fn put_link_lines<W: Sink>(
     summaries: &[LinkSummary],
 ) -> Result<(), Failed>
     requires { IsUnit unit.now }
-    ensures bytes { Puts (W.held to.old) (W.held to.new) (flat_map (link_line unit.now) (zip links.now summaries.now)) result }
+    ensures bytes { Puts (W.held to.old) (W.held to.new)
+        (flat_map (link_line unit.now) (zip links.now summaries.now)) result }
     ensures cause { HasCause (W.faults to.old) (W.faults to.new) result }
 {
     for (link, summary) in links.iter().zip(summaries) {

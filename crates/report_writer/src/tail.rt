@@ -13,9 +13,9 @@ use itoa::Buffer;
 use net_types::{Project, StepAccount};
 use summaries::{LinkSummary, NodeSummary, Summaries};
 
-/// Puts the tail of the report of a run: its volumes, what it came to at each node and in each link, and its counts. Node
-/// and link lines stand in the order of the project; lengths and flows have six places in the user's units, moments are
-/// in ms since the start and volumes in mm³ (this project's profile).
+/// Puts the tail of the report of a run: its volumes, what it came to at each node and in each link, and its
+/// counts. Node and link lines stand in the order of the project; lengths and flows have six places in the
+/// user's units, moments are in ms since the start and volumes in mm³ (this project's profile).
 pub fn put_tail<W: Sink>(
     to: &mut W,
     project: &Project,
@@ -23,7 +23,8 @@ pub fn put_tail<W: Sink>(
     sums: &Summaries,
     counts: &RunCounts,
 ) -> Result<(), Failed>
-    ensures bytes { Puts (W.held to.old) (W.held to.new) (tail_of project.now total.now sums.now.nodes sums.now.links counts.now) result }
+    ensures bytes { Puts (W.held to.old) (W.held to.new)
+        (tail_of project.now total.now sums.now.nodes sums.now.links counts.now) result }
     ensures cause { HasCause (W.faults to.old) (W.faults to.new) result }
 {
     let nodes = sums.nodes().as_slice();
@@ -41,7 +42,8 @@ pub(crate) fn put_figures<W: Sink>(
     links: &[LinkSummary],
     counts: &RunCounts,
 ) -> Result<(), Failed>
-    ensures bytes { Puts (W.held to.old) (W.held to.new) (tail_of project.now total.now nodes.now links.now counts.now) result }
+    ensures bytes { Puts (W.held to.old) (W.held to.new)
+        (tail_of project.now total.now nodes.now links.now counts.now) result }
     ensures cause { HasCause (W.faults to.old) (W.faults to.new) result }
 {
     match put_continuity(to, total) {
@@ -58,7 +60,9 @@ fn put_nodes<W: Sink>(
     links: &[LinkSummary],
     counts: &RunCounts,
 ) -> Result<(), Failed>
-    ensures bytes { Puts (W.held to.old) (W.held to.new) (node_section project.now.options.units project.now.nodes nodes.now ++ (link_section project.now.options.units project.now.links links.now ++ steps_section counts.now)) result }
+    ensures bytes { Puts (W.held to.old) (W.held to.new)
+        (node_section project.now.options.units project.now.nodes nodes.now
+        ++ (link_section project.now.options.units project.now.links links.now ++ steps_section counts.now)) result }
     ensures cause { HasCause (W.faults to.old) (W.faults to.new) result }
 {
     match put_node_depths(to, project, nodes) {
@@ -74,7 +78,8 @@ fn put_links<W: Sink>(
     links: &[LinkSummary],
     counts: &RunCounts,
 ) -> Result<(), Failed>
-    ensures bytes { Puts (W.held to.old) (W.held to.new) (link_section project.now.options.units project.now.links links.now ++ steps_section counts.now) result }
+    ensures bytes { Puts (W.held to.old) (W.held to.new)
+        (link_section project.now.options.units project.now.links links.now ++ steps_section counts.now) result }
     ensures cause { HasCause (W.faults to.old) (W.faults to.new) result }
 {
     match put_link_flows(to, project, links) {

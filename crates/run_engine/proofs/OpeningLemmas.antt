@@ -1,11 +1,13 @@
 -- The opening state: its parts, its ranges and its sums.
-use Rattle.std.proofs.Common.{◌≡◌, ◌∙◌, ℕ, ◌*◌, ◌^◌, ◌<◌, ◌≤◌, ℤ, pos, List, length, replicate, refl, sym, subst, ap, arith}
+use Rattle.std.proofs.Common.{◌≡◌, ◌∙◌, ℕ, ◌*◌, ◌^◌, ◌<◌, ◌≤◌, ℤ, pos, List}
+use Rattle.std.proofs.Common.{length, replicate, refl, sym, subst, ap, arith}
 use Rattle.std.proofs.lemmas.Int.{ints}
 use Rattle.std.proofs.lemmas.List.{get_or-replicate, length-replicate}
 use Rattle.std.proofs.lemmas.List.Elements.{All-get_or}
 use Rattle.std.proofs.lemmas.List.FromFn.{length-map-range_with_len}
 use Rattle.fixed_num.specs.Ranges.{IsFlow, IsStepLength, IsHead, IsElevation, IsDepth}
-use Rattle.fixed_num.proofs.Bounds.{le_number, within_add, within_between, within_cut, within_max, within_minus, within_number, within_up}
+use Rattle.fixed_num.proofs.Bounds.{le_number, within_add, within_between, within_cut}
+use Rattle.fixed_num.proofs.Bounds.{within_max, within_minus, within_number, within_up}
 use Rattle.link_eval.specs.Good.{IsGood}
 use Rattle.link_eval.specs.declared.hydraulics.Hydraulics.{Hydraulics}
 use Rattle.link_eval.specs.Hydraulics.{hydraulics_of, law_of}
@@ -32,7 +34,8 @@ use Rattle.trial_model.proofs.FlowLemmas.{flow_sums_most, listed_inflows, listed
 use Rattle.trial_model.proofs.RangeLemmas.{listed}
 use Rattle.link_eval.specs.LawGood.{head_of_law as head_in}
 use Rattle.run_engine.specs.Ready.{IsReady}
-use Rattle.run_engine.specs.States.{kind_flow, kind_head, level_of, opening, opening_flow, opening_head, opening_node, project_law, stage_of}
+use Rattle.run_engine.specs.States.{kind_flow, kind_head, level_of, opening, opening_flow}
+use Rattle.run_engine.specs.States.{opening_head, opening_node, project_law, stage_of}
 use Rattle.run_engine.proofs.LawLemmas.{law_links, law_nodes, project_law_good}
 use Rattle.run_engine.proofs.RunLemmas.{run_node}
 
@@ -61,7 +64,6 @@ kind_flow_in (Orifice bottom offset cd6 flap) h = within_up (within_number 0) tt
 kind_flow_in (Weir notch crest cd6 flap contractions) h = within_up (within_number 0) tt
 
 pub lateral_in : (project : Project) (n : ℕ) → IsFlow (lateral_of project n)
-unfolding lateral_of
 lateral_in project n = record { within = (within_cut _ (le_number tt) (within_minus (10 ^ 12)) (within_number (10 ^ 12))).within }
 
 -- ---- of nodes and links by their numbers

@@ -1,5 +1,6 @@
 -- A state made ready for a step: its parts and its ranges.
-use Rattle.std.proofs.Common.{◌≡◌, ◌∙◌, ℕ, ◌*◌, ◌^◌, ◌<◌, ℤ, pos, ◌+ℤ◌, ◌-ℤ◌, ◌≤ℤ◌, List, length, refl, sym, subst, ap, arith}
+use Rattle.std.proofs.Common.{◌≡◌, ◌∙◌, ℕ, ◌*◌, ◌^◌, ◌<◌, ℤ, pos, ◌+ℤ◌, ◌-ℤ◌}
+use Rattle.std.proofs.Common.{◌≤ℤ◌, List, length, refl, sym, subst, ap, arith}
 use Rattle.std.proofs.lemmas.Int.{ints}
 use Rattle.std.proofs.lemmas.List.FromFn.{length-map-range_with_len}
 use Rattle.fixed_num.specs.Ranges.{IsBetween, IsWithin, IsFlow, IsStepLength}
@@ -17,11 +18,11 @@ use Rattle.trial_model.specs.Fits.{Fits, NodesFit, SumsFit, node_fixed_at}
 use Rattle.fixed_num.specs.Lists.{number, list_of}
 use Rattle.trial_model.specs.Start.{no_link, no_node}
 use Rattle.trial_model.proofs.RangeLemmas.{listed}
-use Rattle.link_eval.specs.LawGood.{head_of_law as head_in}
+use Rattle.link_eval.specs.LawGood.{head_in as head_of, head_of_law as head_in}
 use Rattle.run_engine.specs.Amounts.{AreAmounts, HaveLaterals}
 use Rattle.run_engine.specs.Ready.{IsReady}
 use Rattle.run_engine.specs.States.{link_start, node_start, prepared, prepared_link, prepared_node, project_law}
-use Rattle.run_engine.proofs.LawLemmas.{law_nodes, link_in}
+use Rattle.run_engine.proofs.LawLemmas.{law_nodes, link_in, project_law_good}
 use Rattle.run_engine.proofs.OpeningLemmas.{lateral_in, stage_in}
 
 -- ---- the net inflow of a node
@@ -89,7 +90,10 @@ module _ {project : Project} (good : IsGood (hydraulics_of project)) (r : IsRead
     {dt : ℤ} (length_in : IsStepLength dt) where
   link_ready : (l : ℕ) → l < (project_law project).links → LinkFixedInRange (prepared_link project s dt l)
   link_ready l inside =
-      let area = mid_area_at-between (hydraulics_of project) l _ _ good (link_in (hydraulics_of project) l inside) in
+      let ends = (project_law_good project good).ends_in l inside in
+      let near = head_of (hydraulics_of project) (fits.heads.each _ ends.first) in
+      let far = head_of (hydraulics_of project) (fits.heads.each _ ends.second) in
+      let area = mid_area_at-between (hydraulics_of project) l good (link_in (hydraulics_of project) l inside) near far in
       record {
         flow = fits.flows.each l inside;
         area = record { from = area.from; to = area_fits area };
@@ -97,7 +101,7 @@ module _ {project : Project} (good : IsGood (hydraulics_of project)) (r : IsRead
         length = length_in;
       }
     where
-      area_fits : {a : ℤ} → IsBetween (pos 0) a (pos (10 ^ 11)) → a ≤ℤ pos (10 ^ 12)
+      area_fits : {a : ℤ} → IsBetween (pos 0) a (pos (5 * 10 ^ 11)) → a ≤ℤ pos (10 ^ 12)
       area_fits b = omega (arith, ints, b.to)
 
   node_ready : (n : ℕ) → n < (project_law project).nodes → NodeFixedInRange (project_law project) (prepared_node project s dt n)

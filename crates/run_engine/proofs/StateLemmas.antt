@@ -1,5 +1,6 @@
 -- The states of a run, and what its steps come to, with one step more.
-use Rattle.std.proofs.Common.{◌≡◌, ◌∙◌, ℕ, ◌+◌, ◌≤◌, Bool, true, false, if◌then◌else◌, refl, sym, ap, subst, arith, add-one}
+use Rattle.std.proofs.Common.{◌≡◌, ◌∙◌, ℕ, ◌+◌, ◌≤◌, Bool, true, false}
+use Rattle.std.proofs.Common.{if◌then◌else◌, refl, sym, ap, subst, arith, add-one}
 use Rattle.continuity.specs.Account.{account_of, floods_of}
 use Rattle.link_eval.specs.Hydraulics.{hydraulics_of}
 use Rattle.net_types.specs.declared.project.Project.{Project}

@@ -60,7 +60,8 @@ pub record AreCountsAt (project : Project) (k : ℕ) (counts : RunCounts) : Type
   pub unsettled : counts.unsettled ≤ k
 
 -- all that a run keeps; the state before is only room for one
-pub record IsKept (project : Project) (h : Hydraulics) (nets before : Nets) (floods : List ℤ) (sums : Figures) (total : Running) (counts : RunCounts) : Type 0 where
+pub record IsKept (project : Project) (h : Hydraulics) (nets before : Nets) (floods : List ℤ) (sums : Figures)
+    (total : Running) (counts : RunCounts) : Type 0 where
   pub ready : IsReady project
   pub law : h ≡ hydraulics_of project
   pub within : counts.steps ≤ steps_of project.options

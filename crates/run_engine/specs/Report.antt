@@ -9,4 +9,5 @@ use Rattle.run_engine.specs.Times.{steps_of}
 unfoldable pub report_of : Project → List ℕ
 report_of project =
     let k = steps_of project.options in
-    head_of project ++ tail_of project (total_after project k) (node_summaries project k) (link_summaries project k) (counts_after project k)
+    head_of project ++ tail_of project (total_after project k)
+    (node_summaries project k) (link_summaries project k) (counts_after project k)

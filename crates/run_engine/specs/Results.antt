@@ -18,7 +18,8 @@ use Rattle.run_engine.specs.Times.{length_of, moment_of}
 
 -- the account of the step from state k to the next
 unfoldable pub account_at : Project → ℕ → StepAccount
-account_at project k = account_of (hydraulics_of project) (state project k) (state project (k + 1)) (length_of project.options k)
+account_at project k =
+    account_of (hydraulics_of project) (state project k) (state project (k + 1)) (length_of project.options k)
 
 -- the account of the first k steps: each field is the sum of theirs
 abbrev pub total_after : Project → ℕ → StepAccount
@@ -44,7 +45,8 @@ counts_after project k = record {
 -- the summaries of the states 0 to k
 unfoldable pub node_summaries : Project → ℕ → List NodeSummary
 node_summaries project k =
-    list_of (λ n. node_summary (state project) (floods_at project) (moment_of project.options) k (node_at project.nodes n).invert n) (length project.nodes)
+    list_of (λ n. node_summary (state project) (floods_at project) (moment_of project.options) k
+    (node_at project.nodes n).invert n) (length project.nodes)
 
 unfoldable pub link_summaries : Project → ℕ → List LinkSummary
 link_summaries project k = list_of (link_summary (state project) (moment_of project.options) k) (length project.links)

@@ -45,7 +45,8 @@ stage_of (Outfall stage gated) = level_of stage
 stage_of (Junction surcharge pond) = pos 0
 stage_of (Storage shape) = pos 0
 
--- the head of a node in the beginning: a junction has its initial depth, an outfall its stage where that is above its invert
+-- the head of a node in the beginning: a junction has its initial depth, an outfall its stage where that is
+-- above its invert
 abbrev pub kind_head : NodeKind → (invert y0 : ℤ) → ℤ
 kind_head (Outfall stage gated) invert y0 = int_max invert (level_of stage)
 kind_head (Junction surcharge pond) invert y0 = invert +ℤ y0
@@ -66,7 +67,13 @@ opening_flow links l = kind_flow (link_at links l).kind
 
 -- what a node has of its own at a moment: its lateral inflow and its stage
 abbrev pub opening_node : Project → ℕ → NodeFixed
-opening_node project n = record { h_old = pos 0; net_old = pos 0; lateral = lateral_of project n; stage = stage_of (node_of project.nodes n).kind; dt = pos 0 }
+opening_node project n = record {
+  h_old = pos 0;
+  net_old = pos 0;
+  lateral = lateral_of project n;
+  stage = stage_of (node_of project.nodes n).kind;
+  dt = pos 0;
+}
 
 -- the state before the first step: initial heads and flows, and what the nodes get of these flows
 unfoldable pub opening : Project → Nets
@@ -86,11 +93,17 @@ opening project =
     }
 
 -- ---- a step
--- what stays the same for a link over a step: its flow and its middle area in the state, its setting (all are open), the length
+-- what stays the same for a link over a step: its flow and its middle area in the state, its setting (all are
+-- open), the length
 abbrev pub link_start : Hydraulics → (heads flows : List ℤ) → (dt : ℤ) → ℕ → LinkFixed
 link_start h heads flows dt l =
     let ends = (law_of h).ends l in
-    record { q_old = number flows l; a_old = mid_area_at h l (number heads ends.0) (number heads ends.1); setting = pos 1_000_000; dt = dt }
+    record {
+      q_old = number flows l;
+      a_old = mid_area_at h l (number heads ends.0) (number heads ends.1);
+      setting = pos 1_000_000;
+      dt = dt;
+    }
 
 abbrev pub prepared_link : Project → Nets → (dt : ℤ) → ℕ → LinkFixed
 prepared_link project s = link_start (hydraulics_of project) s.heads s.flows
@@ -112,7 +125,10 @@ prepared_node project s = node_start project s.heads s.inflows s.outflows s.node
 unfoldable pub prepared : Project → (dt : ℤ) → Nets → Nets
 prepared project dt s =
     let law = project_law project in
-    record s { links = list_of (prepared_link project s dt) law.links; nodes = list_of (prepared_node project s dt) law.nodes }
+    record s {
+      links = list_of (prepared_link project s dt) law.links;
+      nodes = list_of (prepared_node project s dt) law.nodes;
+    }
 
 -- how the step of this length from a state ends, and the state after it
 unfoldable pub step_end : Project → (dt : ℤ) → Nets → StepEnd

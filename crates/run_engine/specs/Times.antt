@@ -11,7 +11,8 @@ duration_of options = options.finish -ℤ options.start
 
 -- the number of routing steps: as many as reach the end, the last of them perhaps a shorter one
 unfoldable pub steps_of : Options → ℕ
-steps_of options = (unsigned_abs (duration_of options) + (unsigned_abs options.step_ms - 1)) / unsigned_abs options.step_ms
+steps_of options =
+    (unsigned_abs (duration_of options) + (unsigned_abs options.step_ms - 1)) / unsigned_abs options.step_ms
 
 -- the moment of state k, in ms since the start: k routing steps, and no later than the end
 unfoldable pub moment_of : Options → ℕ → ℤ
@@ -21,8 +22,9 @@ moment_of options k = int_min (pos k *ℤ options.step_ms) (duration_of options)
 unfoldable pub length_of : Options → ℕ → ℤ
 length_of options k = moment_of options (k + 1) -ℤ moment_of options k
 
--- what the steps of a run ask of its options: it does not end before it starts and lasts at most 3,660 days; its routing step is
--- 10 ms to an hour, and 50,000,000 of them reach the end; and both are even numbers of ms, so that every step is one
+-- what the steps of a run ask of its options: it does not end before it starts and lasts at most 3,660 days;
+-- its routing step is 10 ms to an hour, and 50,000,000 of them reach the end; and both are even numbers of ms,
+-- so that every step is one
 pub record AreRunOptions (options : Options) : Type 0 where
   pub duration : IsBetween (pos 0) (duration_of options) (pos 316_224_000_000)
   pub duration_even : IsEven (duration_of options)

@@ -1,13 +1,13 @@
 //! The run of a project by one worker: its opening state, its routing steps, and its report.
 //!
-//! The state sequence of a run is a recursion over the number of steps (`specs/States.antt`): a state is made ready with
-//! the length of the step and the lateral inflows at its end, and the successive trials of the step give the next one.
-//! What a run comes to is said over the list of all its states (`specs/Results.antt`, `specs/Report.antt`). The code
-//! keeps one state, the one before it, and running totals.
+//! The state sequence of a run is a recursion over the number of steps (`specs/States.antt`): a state is made
+//! ready with the length of the step and the lateral inflows at its end, and the successive trials of the step
+//! give the next one. What a run comes to is said over the list of all its states (`specs/Results.antt`,
+//! `specs/Report.antt`). The code keeps one state, the one before it, and running totals.
 //!
 //! The contracts that matter: [`open_run`] gives a run at state 0, [`Run::advance_alone`] leaves it at the last state
-//! (`IsAt` of `specs/Progress.antt`), and [`Run::finish`] puts `report_of` its project. What a run keeps between two steps, and
-//! so what always holds of a [`Run`], stands in `specs/Kept.antt`.
+//! (`IsAt` of `specs/Progress.antt`), and [`Run::finish`] puts `report_of` its project. What a run keeps
+//! between two steps, and so what always holds of a [`Run`], stands in `specs/Kept.antt`.
 #![tactic(auto, using(fixed_num::proofs::Bounds::casts))]
 
 mod begin;

@@ -8,7 +8,8 @@ ghost use Rattle.net_types.specs.Records.{node_at as node_of};
 ghost use Rattle.trial_model.specs.Start.{resting};
 ghost use Rattle.fixed_num.specs.Lists.{list_of};
 ghost use Rattle.run_engine.specs.Ready.{IsReady};
-ghost use Rattle.run_engine.specs.States.{kind_flow, kind_head, level_of, opening, opening_flow, opening_head, opening_node, stage_of};
+ghost use Rattle.run_engine.specs.States.{kind_flow, kind_head, level_of, opening};
+ghost use Rattle.run_engine.specs.States.{opening_flow, opening_head, opening_node, stage_of};
 
 use link_eval::HydraulicLaw;
 use net_types::{Link, LinkKind, Node, NodeKind, OutOfMemory, Project, Stage};

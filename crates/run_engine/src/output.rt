@@ -19,7 +19,8 @@ pub(crate) fn put_report<W: Sink>(
     counts: &RunCounts,
 ) -> Result<(), Failed>
     requires { HasCalendarDates project.now.options }
-    ensures bytes { Puts (W.held to.old) (W.held to.new) (head_of project.now ++ tail_of project.now total.now sums.now.nodes sums.now.links counts.now) result }
+    ensures bytes { Puts (W.held to.old) (W.held to.new)
+        (head_of project.now ++ tail_of project.now total.now sums.now.nodes sums.now.links counts.now) result }
     ensures cause { HasCause (W.faults to.old) (W.faults to.new) result }
 {
     match put_head(to, project) {

@@ -92,7 +92,8 @@ fn prepare_nodes(
     requires inflows { AreAmounts (length project.now.nodes) inflows.now }
     requires outflows { AreAmounts (length project.now.nodes) outflows.now }
     requires nodes { HaveLaterals (length project.now.nodes) nodes.old }
-    ensures { nodes.new ≡ list_of (node_start project.now heads.now inflows.now outflows.now nodes.old dt) (length project.now.nodes) }
+    ensures { nodes.new ≡ list_of
+        (node_start project.now heads.now inflows.now outflows.now nodes.old dt) (length project.now.nodes) }
 {
     let count = project.nodes.as_slice().len() as u32;
     for n in 0..count {

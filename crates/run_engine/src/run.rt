@@ -52,7 +52,14 @@ impl Model for Run {
 
     ghost Value = { Progress };
 
-    ghost view = { λ s. record { project = s.project; nets = s.nets; total = s.total.total; nodes = s.sums.nodes; links = s.sums.links; counts = s.counts } };
+    ghost view = { λ s. record {
+      project = s.project;
+      nets = s.nets;
+      total = s.total.total;
+      nodes = s.sums.nodes;
+      links = s.sums.links;
+      counts = s.counts;
+    } };
 
     ghost invariant = { λ s. IsKept s.project s.law.hydraulics s.nets s.before s.floods s.sums s.total s.counts };
 }
@@ -109,7 +116,8 @@ impl Run {
     /// Source: this project's profile.
     pub fn finish<W: Sink>(&self, rpt: &mut W) -> Result<(), Failed>
         requires { IsAt self.now (steps_of self.now.project.options) }
-        ensures bytes { Puts (W.held rpt.old) (W.held rpt.new) (report_of self.now.project) result }
+        ensures bytes { Puts (W.held rpt.old) (W.held rpt.new)
+            (report_of self.now.project) result }
         ensures cause { HasCause (W.faults rpt.old) (W.faults rpt.new) result }
     {
         let total = self.total.total();
@@ -122,6 +130,15 @@ impl Run {
         ensures balance { Balances result }
     {
         self.total.total()
+    }
+
+    /// The least time in ms, up to an hour, that a wave took through a link in the last trial.
+    ///
+    /// Source: Reference Manual volume II, chapter 3 (variable steps).
+    pub fn least_travel_time(&self) -> i64
+        ensures { result ≡ self.now.nets.least }
+    {
+        self.nets.least
     }
 
     /// How many steps and trials there were so far, and how many of the steps did not settle.

@@ -1,5 +1,7 @@
 -- The figures of a run, with no state and with one state more.
-use Rattle.std.proofs.Common.{◌≡◌, ◌==◌, true, false, int_lt, ℕ, zero, suc, ◌+◌, ◌*◌, ◌^◌, ◌<◌, ◌≤◌, List, [], ◌∷◌, length, replicate, take, drop, ◌++◌, ℤ, pos, ◌+ℤ◌, ◌-ℤ◌, refl, sym, ap, ◌∙◌, inl, inr, arith, add-one}
+use Rattle.std.proofs.Common.{◌≡◌, ◌==◌, true, false, int_lt, ℕ, zero, suc, ◌+◌, ◌*◌, ◌^◌, ◌<◌}
+use Rattle.std.proofs.Common.{◌≤◌, List, [], ◌∷◌, length, replicate, take, drop, ◌++◌, ℤ, pos}
+use Rattle.std.proofs.Common.{◌+ℤ◌, ◌-ℤ◌, refl, sym, ap, ◌∙◌, inl, inr, arith, add-one}
 use Rattle.std.specs.Int.RustNames.{unsigned_abs}
 use Rattle.std.specs.List.{All}
 use Rattle.std.proofs.lemmas.Bool.{cases_lt}
@@ -15,9 +17,11 @@ use Rattle.net_types.specs.declared.network.Stage.TheVariants.{Free}
 use Rattle.net_types.specs.declared.project.Project.{Project}
 use Rattle.trial_model.specs.declared.nets.Nets.{Nets}
 use Rattle.fixed_num.specs.Lists.{number, list_of}
-use Rattle.summaries.specs.Figures.{Figures, AreFigures, AreSummaries, HasGoodInvert, inverts_of, new_figures, node_summary, link_summary}
+use Rattle.summaries.specs.Figures.{Figures, AreFigures, AreSummaries, HasGoodInvert}
+use Rattle.summaries.specs.Figures.{inverts_of, new_figures, node_summary, link_summary}
 use Rattle.summaries.specs.Peaks.{Peak, peak_of, raised}
-use Rattle.summaries.specs.Steps.{node_summary_at, link_summary_at, node_with, with_node, with_link, no_node_summary, no_link_summary}
+use Rattle.summaries.specs.Steps.{node_summary_at, link_summary_at, node_with, with_node}
+use Rattle.summaries.specs.Steps.{with_link, no_node_summary, no_link_summary}
 use Rattle.summaries.specs.declared.node_summary.NodeSummary.{NodeSummary}
 use Rattle.summaries.specs.declared.link_summary.LinkSummary.{LinkSummary}
 

@@ -43,7 +43,8 @@ pub record AreFigures (figures : Figures) : Type 0 where
 
 -- a node's summary of the states 0 to `last` of a run: its greatest depth and when it was first met, its last head, and
 -- the sum of what flooded it
-unfoldable pub node_summary : (run : ℕ → Nets) (flooded : ℕ → List ℤ) (moments : ℕ → ℤ) (last : ℕ) (invert : ℤ) → ℕ → NodeSummary
+unfoldable pub node_summary : (run : ℕ → Nets) (flooded : ℕ → List ℤ) (moments : ℕ → ℤ) (last : ℕ) (invert : ℤ)
+    → ℕ → NodeSummary
 node_summary run flooded moments last invert n =
     node_with
     (peak_of (λ k. number (run k).heads n -ℤ invert) moments last)
@@ -59,5 +60,7 @@ link_summary run moments last l =
 -- floods and moments
 pub record AreSummaries (run : ℕ → Nets) (flooded : ℕ → List ℤ) (moments : ℕ → ℤ) (figures : Figures) : Type 0 where
   pub nodes : (last : ℕ) → figures.states ≡ last + 1
-      → figures.nodes ≡ list_of (λ n. node_summary run flooded moments last (number figures.inverts n) n) (length figures.inverts)
-  pub links : (last : ℕ) → figures.states ≡ last + 1 → figures.links ≡ list_of (link_summary run moments last) (length figures.links)
+      → figures.nodes
+      ≡ list_of (λ n. node_summary run flooded moments last (number figures.inverts n) n) (length figures.inverts)
+  pub links : (last : ℕ) → figures.states ≡ last + 1
+      → figures.links ≡ list_of (link_summary run moments last) (length figures.links)

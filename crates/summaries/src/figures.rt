@@ -61,7 +61,8 @@ impl Summaries {
         requires flows_in { (l : ℕ) → IsFlow (number nets.now.flows l) }
         requires floods { length floods.now ≡ length self.old.inverts }
         requires floods_in { (n : ℕ) → IsBetween (pos 0) (number floods.now n) (pos (10 ^ 28)) }
-        ensures summaries { (run : ℕ → State) (flooded : ℕ → Sequence ℤ) (moments : ℕ → ℤ) → AreSummaries run flooded moments self.old
+        ensures summaries { (run : ℕ → State) (flooded : ℕ → Sequence ℤ) (moments : ℕ → ℤ)
+            → AreSummaries run flooded moments self.old
             → run self.old.states ≡ nets.now → flooded self.old.states ≡ floods.now → moments self.old.states ≡ moment
             → AreSummaries run flooded moments self.new }
         ensures figures { AreFigures self.new }

@@ -50,7 +50,8 @@ pub(crate) fn add_links(links: &mut [LinkSummary], first: bool, flows: &[i64], m
     requires flows_in { (l : ℕ) → IsFlow (number flows.now l) }
     ensures count { length links.new ≡ length links.old }
     ensures each { (l : ℕ) → l < length links.old → link_summary_at links.new l
-        ≡ with_link first (link_summary_at links.old l) (pos (unsigned_abs (number flows.now l))) (number flows.now l) moment }
+        ≡ with_link first (link_summary_at links.old l)
+        (pos (unsigned_abs (number flows.now l))) (number flows.now l) moment }
 {
     for l in 0..links.len() {
         links[l] = with_state(&links[l], first, flows[l], moment);

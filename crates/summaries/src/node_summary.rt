@@ -76,7 +76,8 @@ pub(crate) fn add_nodes(
     requires flooded { (n : ℕ) → IsBetween (pos 0) (node_summary_at nodes.old n).flooded (pos (10 ^ 37)) }
     ensures count { length nodes.new ≡ length nodes.old }
     ensures each { (n : ℕ) → n < length nodes.old → node_summary_at nodes.new n
-        ≡ with_node first (node_summary_at nodes.old n) (number heads.now n -ℤ number inverts.now n) (number heads.now n) (number floods.now n) moment }
+        ≡ with_node first (node_summary_at nodes.old n)
+        (number heads.now n -ℤ number inverts.now n) (number heads.now n) (number floods.now n) moment }
 {
     for n in 0..nodes.len() {
         nodes[n] = with_state(&nodes[n], first, inverts[n], heads[n], floods[n], moment);

@@ -9,7 +9,8 @@ use Rattle.swmm5_fx.specs.declared.line.Line.TheVariants as line
 
 -- the words that are a command
 abbrev pub usage_text : List ℕ
-usage_text = codes "usage: swmm5_fx run INP RPT [--threads N] [--hot-in F] [--hot-out F] | check INP RPT | demo N RPT [--threads N]"
+usage_text =
+    codes "usage: swmm5_fx run INP RPT [--threads N] [--hot-in F] [--hot-out F] | check INP RPT | demo N RPT [--threads N]"
 
 -- a line's text
 abbrev pub line_text : Line → List ℕ

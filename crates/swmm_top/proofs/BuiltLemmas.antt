@@ -1,10 +1,10 @@
 -- The test of what is built tells whether it is.
-use Rattle.std.proofs.Common.{◌≡◌, Bool, true, false, not, ◌&&◌, List, [], ◌∷◌, Option, Some, None, pos, refl, IfSome}
+use Rattle.std.proofs.Common.{◌≡◌, Bool, true, false, not, ◌&&◌, List, [], ◌∷◌, Option, Some, None, refl}
 use Rattle.std.specs.Bool.{Decides, ⊤}
 use Rattle.std.specs.List.{All, list_all}
 use Rattle.std.specs.Option.{is_none}
-use Rattle.std.proofs.lemmas.Bool.Decides.{Decides-and, Decides-by_and, Decides-int_eq, Decides-like}
-use Rattle.link_eval.specs.Built.{HasHydraulics, IsBuiltLink, IsLossless}
+use Rattle.std.proofs.lemmas.Bool.Decides.{Decides-and, Decides-by_and, Decides-like}
+use Rattle.link_eval.specs.Built.{HasHydraulics, IsBuiltLink, IsConduitKind}
 use Rattle.net_types.specs.declared.inflows.DryFlow.{DryFlow}
 use Rattle.net_types.specs.declared.inflows.Inflow.{Inflow}
 use Rattle.net_types.specs.declared.network.Link.{Link}
@@ -13,20 +13,15 @@ use Rattle.net_types.specs.declared.network.LinkKind.TheVariants.{Conduit, Pump,
 use Rattle.net_types.specs.declared.network.Node.{Node}
 use Rattle.net_types.specs.declared.network.NodeKind.{NodeKind}
 use Rattle.net_types.specs.declared.network.NodeKind.TheVariants.{Junction, Outfall, Storage}
-use Rattle.net_types.specs.declared.network.Section.{Section}
-use Rattle.net_types.specs.declared.network.Shape.{Shape}
-use Rattle.net_types.specs.declared.network.Shape.TheVariants.{RectOpen, RectClosed, Trapezoidal, Triangular, Circular}
 use Rattle.net_types.specs.declared.network.Stage.{Stage}
 use Rattle.net_types.specs.declared.network.Stage.TheVariants.{Free, Normal, Fixed, Tidal, Series}
-use Rattle.net_types.specs.declared.options.Damping.{Damping}
-use Rattle.net_types.specs.declared.options.Damping.TheVariants.{Zero, Partial, Full}
 use Rattle.net_types.specs.declared.project.Project.{Project}
 use Rattle.node_update.specs.Network.{HasNodeLaws, IsBuiltKind, IsFixedStage}
-use Rattle.project_check.specs.Tables.{HasRows, HasTable}
 use Rattle.run_engine.specs.Ready.{IsBuilt}
 use Rattle.time_series.specs.LateralFlow.{HasBuiltInflows, IsConstant}
-use Rattle.xsect_tables.specs.Sections.{IsRectOpen}
-use Rattle.swmm_top.specs.Built.{are_built_inflows, are_built_links, are_built_nodes, has_table, is_built, is_built_kind, is_built_link, is_built_node, is_constant, is_empty, is_fixed, is_full, is_lossless, is_rect_open}
+use Rattle.swmm_top.specs.Built.{are_built_inflows, are_built_links, are_built_nodes, is_built}
+use Rattle.swmm_top.specs.Built.{is_built_kind, is_built_link, is_built_node, is_constant}
+use Rattle.swmm_top.specs.Built.{is_conduit, is_empty, is_fixed}
 
 yes : Decides true ⊤
 yes = ((λ h. tt), (λ t. refl))
@@ -61,38 +56,17 @@ nodes_told project =
     (Decides-and _ _ (not_told project.options.ponding) (all_told is_built_node (λ (node : Node). IsBuiltKind node.kind) (λ node. kind_told node.kind) project.nodes))
 
 -- ---- links
-lossless_told : (kind : LinkKind) → Decides (is_lossless kind) (IsLossless kind)
-lossless_told (Conduit long n6 z1 z2 q0 q_max entry6 exit6 avg6 flap) =
-    Decides-like {P = (entry6 ≡ pos 0) × ((exit6 ≡ pos 0) × (avg6 ≡ pos 0))} _ (λ p. (p.0, p.1.0, p.1.1)) (λ h. (h.0, (h.1, h.2)))
-    (Decides-and _ _ (Decides-int_eq entry6 (pos 0)) (Decides-and _ _ (Decides-int_eq exit6 (pos 0)) (Decides-int_eq avg6 (pos 0))))
-lossless_told (Pump curve on startup shutoff) = no
-lossless_told (Orifice bottom offset cd6 flap) = no
-lossless_told (Weir notch crest cd6 flap contractions) = no
-
-shape_told : (shape : Shape) → Decides (is_rect_open shape) (IsRectOpen shape)
-shape_told (RectOpen width) = yes
-shape_told (RectClosed width) = no
-shape_told (Trapezoidal bottom left6 right6) = no
-shape_told (Triangular top) = no
-shape_told Circular = no
-
-table_told : (section : Option Section) → Decides (has_table section) (IfSome section HasRows)
-table_told (Some section) = shape_told section.shape
-table_told None = yes
+conduit_told : (kind : LinkKind) → Decides (is_conduit kind) (IsConduitKind kind)
+conduit_told (Conduit long n6 z1 z2 q0 q_max entry6 exit6 avg6 flap) = yes
+conduit_told (Pump curve on startup shutoff) = no
+conduit_told (Orifice bottom offset cd6 flap) = no
+conduit_told (Weir notch crest cd6 flap contractions) = no
 
 link_told : (link : Link) → Decides (is_built_link link) (IsBuiltLink link)
-link_told link =
-    Decides-like {P = IsLossless link.kind × HasTable link} (is_built_link link)
-    (λ p. record { kind = p.0; table = p.1 }) (λ h. (h.kind, h.table))
-    (Decides-and _ _ (lossless_told link.kind) (table_told link.section))
+link_told link = conduit_told link.kind
 
-damping_told : (damping : Damping) → Decides (is_full damping) (damping ≡ Full)
-damping_told Zero = ((λ h. let never : ⊥ = cc in absurd never), (λ e. let never : ⊥ = cc in absurd never))
-damping_told Partial = ((λ h. let never : ⊥ = cc in absurd never), (λ e. let never : ⊥ = cc in absurd never))
-damping_told Full = ((λ h. refl), (λ e. refl))
-
-links_told : (project : Project) → Decides (are_built_links project) ((project.options.damping ≡ Full) × All IsBuiltLink project.links)
-links_told project = Decides-and _ _ (damping_told project.options.damping) (all_told is_built_link IsBuiltLink link_told project.links)
+links_told : (project : Project) → Decides (are_built_links project) (All IsBuiltLink project.links)
+links_told project = all_told is_built_link IsBuiltLink link_told project.links
 
 -- ---- inflows
 none_told : {A : Type 0} (o : Option A) → Decides (is_none o) (o ≡ None)
@@ -116,12 +90,12 @@ inflows_told project =
     (Decides-and _ _ (empty_told project.dry) (all_told is_constant IsConstant inflow_told project.inflows))
 
 -- ---- the whole
-parts : (project : Project) → IsBuilt project → HasNodeLaws project × (((project.options.damping ≡ Full) × All IsBuiltLink project.links) × HasBuiltInflows project)
-parts project h = (h.hydraulics.nodes, ((h.hydraulics.damped, h.hydraulics.links), h.inflows))
+parts : (project : Project) → IsBuilt project → HasNodeLaws project × (All IsBuiltLink project.links × HasBuiltInflows project)
+parts project h = (h.hydraulics.nodes, (h.hydraulics.links, h.inflows))
 
 pub built_told : (project : Project) → Decides (is_built project) (IsBuilt project)
 unfolding is_built
 built_told project =
-    Decides-like {P = HasNodeLaws project × (((project.options.damping ≡ Full) × All IsBuiltLink project.links) × HasBuiltInflows project)} (is_built project)
-    (λ p. record { hydraulics = record { nodes = p.0; links = p.1.0.1; damped = p.1.0.0 }; inflows = p.1.1 }) (parts project)
+    Decides-like {P = HasNodeLaws project × (All IsBuiltLink project.links × HasBuiltInflows project)} (is_built project)
+    (λ p. record { hydraulics = record { nodes = p.0; links = p.1.0 }; inflows = p.1.1 }) (parts project)
     (Decides-and _ _ (nodes_told project) (Decides-and _ _ (links_told project) (inflows_told project)))

@@ -1,4 +1,3 @@
 mod BuiltLemmas
 mod InputLemmas
 mod OutcomeLemmas
-mod ReadLemmas

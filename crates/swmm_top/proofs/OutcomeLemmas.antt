@@ -1,5 +1,7 @@
 -- The outcome of an input, and of the front of it that is read.
-use Rattle.std.proofs.Common.{◌≡◌, ◌≢◌, ℕ, ◌+◌, ◌≤◌, ◌<◌, Bool, true, false, nat_lt, List, [], ◌∷◌, length, take, Option, None, Some, IfSome, IsSome, IfOk, Result, Ok, Err, if◌then◌else◌, refl, sym, ap, ◌∙◌, subst, inl, inr, arith}
+use Rattle.std.proofs.Common.{◌≡◌, ◌≢◌, ℕ, ◌+◌, ◌≤◌, ◌<◌, Bool, true, false, nat_lt, List, [], ◌∷◌}
+use Rattle.std.proofs.Common.{length, take, Option, None, Some, IfSome, IsSome, IfOk, Result, Ok}
+use Rattle.std.proofs.Common.{Err, if◌then◌else◌, refl, sym, ap, ◌∙◌, subst, inl, inr, arith}
 use Rattle.std.proofs.lemmas.List.{length-take, take_all}
 use Rattle.std.proofs.lemmas.Bool.{cases_lt, lt-ltb}
 use Rattle.std.proofs.lemmas.Bool.Decides.{nat_tests}
@@ -23,7 +25,9 @@ use Rattle.swmm_top.specs.Answers.{HasGiven, GivesOutcome, ReportsOutcome}
 use Rattle.swmm_top.specs.Built.{is_built}
 use Rattle.swmm_top.specs.CommandWords.{Command, ReadsInputAlone, by_mode, run_only, check_only}
 use Rattle.swmm_top.specs.Input.{TakesFront, input_limit}
-use Rattle.swmm_top.specs.Outcome.{Outcome, IsOutcome, IsInputOutcome, IsLinesOutcome, usage, refused, done, not_built, answer_of, answer_unless, project_outcome, read_of, input_of, hotstart_of}
+use Rattle.swmm_top.specs.Outcome.{Outcome, IsOutcome, IsInputOutcome, IsLinesOutcome}
+use Rattle.swmm_top.specs.Outcome.{usage, refused, done, not_built, answer_of, answer_unless}
+use Rattle.swmm_top.specs.Outcome.{project_outcome, read_of, input_of, hotstart_of}
 use Rattle.swmm_top.specs.declared.mode.Mode.{Mode}
 use Rattle.swmm_top.specs.declared.mode.Mode.TheVariants.{Run, Check}
 use Rattle.swmm_top.specs.declared.status.Status.{Status}

@@ -1,5 +1,6 @@
 -- What an answer of a top call says of its ports.
-use Rattle.std.specs.Prelude.{◌≡◌, ◌≢◌, ◌⊎◌, ℕ, ◌+◌, List, Option, Some, Result, IfSome, IsSome, IfOk, OnOk, OnErr, IfErr, IsErrOf, drop}
+use Rattle.std.specs.Prelude.{◌≡◌, ◌≢◌, ◌⊎◌, ℕ, ◌+◌, List, Option, Some, Result}
+use Rattle.std.specs.Prelude.{IfSome, IsSome, IfOk, OnOk, OnErr, IfErr, IsErrOf, drop}
 use Rattle.std.specs.Io.KnownBytes.{Appends}
 use Rattle.fault_ports.specs.Causes.{HasFailed, HasNotFailed}
 use Rattle.fault_ports.specs.Output.{AppendsPrefix}

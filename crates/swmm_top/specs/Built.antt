@@ -1,9 +1,8 @@
--- Whether all is built that a run needs of a project: junctions and outfalls of fixed stage without ponding, conduits of
--- rectangular open section without losses, full damping, and constant inflows (User's Manual, appendix D).
-use Rattle.std.specs.Prelude.{Bool, true, false, not, ◌&&◌, List, [], ◌∷◌, Option, Some, None, pos}
+-- Whether all is built that a run needs of a project: junctions and outfalls of fixed stage without ponding,
+-- conduits, and constant inflows (User's Manual, appendix D).
+use Rattle.std.specs.Prelude.{Bool, true, false, not, ◌&&◌, List, [], ◌∷◌}
 use Rattle.std.specs.List.{list_all}
 use Rattle.std.specs.Option.{is_none}
-use Rattle.std.specs.Ordering.{int_eq}
 use Rattle.net_types.specs.declared.inflows.DryFlow.{DryFlow}
 use Rattle.net_types.specs.declared.inflows.Inflow.{Inflow}
 use Rattle.net_types.specs.declared.network.Link.{Link}
@@ -12,13 +11,8 @@ use Rattle.net_types.specs.declared.network.LinkKind.TheVariants.{Conduit, Pump,
 use Rattle.net_types.specs.declared.network.Node.{Node}
 use Rattle.net_types.specs.declared.network.NodeKind.{NodeKind}
 use Rattle.net_types.specs.declared.network.NodeKind.TheVariants.{Junction, Outfall, Storage}
-use Rattle.net_types.specs.declared.network.Section.{Section}
-use Rattle.net_types.specs.declared.network.Shape.{Shape}
-use Rattle.net_types.specs.declared.network.Shape.TheVariants.{RectOpen, RectClosed, Trapezoidal, Triangular, Circular}
 use Rattle.net_types.specs.declared.network.Stage.{Stage}
 use Rattle.net_types.specs.declared.network.Stage.TheVariants.{Free, Normal, Fixed, Tidal, Series}
-use Rattle.net_types.specs.declared.options.Damping.{Damping}
-use Rattle.net_types.specs.declared.options.Damping.TheVariants.{Zero, Partial, Full}
 use Rattle.net_types.specs.declared.project.Project.{Project}
 
 -- ---- nodes
@@ -38,32 +32,16 @@ abbrev pub is_built_node : Node → Bool
 is_built_node node = is_built_kind node.kind
 
 -- ---- links
-abbrev pub is_lossless : LinkKind → Bool
-is_lossless (Conduit long n6 z1 z2 q0 q_max entry6 exit6 avg6 flap) = int_eq entry6 (pos 0) && (int_eq exit6 (pos 0) && int_eq avg6 (pos 0))
-is_lossless (Pump curve on startup shutoff) = false
-is_lossless (Orifice bottom offset cd6 flap) = false
-is_lossless (Weir notch crest cd6 flap contractions) = false
-
-abbrev pub is_rect_open : Shape → Bool
-is_rect_open (RectOpen width) = true
-is_rect_open (RectClosed width) = false
-is_rect_open (Trapezoidal bottom left6 right6) = false
-is_rect_open (Triangular top) = false
-is_rect_open Circular = false
-
-abbrev pub has_table : Option Section → Bool
-has_table (Some section) = is_rect_open section.shape
-has_table None = true
+abbrev pub is_conduit : LinkKind → Bool
+is_conduit (Conduit long n6 z1 z2 q0 q_max entry6 exit6 avg6 flap) = true
+is_conduit (Pump curve on startup shutoff) = false
+is_conduit (Orifice bottom offset cd6 flap) = false
+is_conduit (Weir notch crest cd6 flap contractions) = false
 
 abbrev pub is_built_link : Link → Bool
-is_built_link link = is_lossless link.kind && has_table link.section
+is_built_link link = is_conduit link.kind
 
--- ---- options and inflows
-abbrev pub is_full : Damping → Bool
-is_full Zero = false
-is_full Partial = false
-is_full Full = true
-
+-- ---- inflows
 abbrev pub is_constant : Inflow → Bool
 is_constant inflow = is_none inflow.series && is_none inflow.pattern
 
@@ -76,7 +54,7 @@ abbrev pub are_built_nodes : Project → Bool
 are_built_nodes project = not project.options.ponding && list_all is_built_node project.nodes
 
 abbrev pub are_built_links : Project → Bool
-are_built_links project = is_full project.options.damping && list_all is_built_link project.links
+are_built_links project = list_all is_built_link project.links
 
 abbrev pub are_built_inflows : Project → Bool
 are_built_inflows project = is_empty project.dry && list_all is_constant project.inflows

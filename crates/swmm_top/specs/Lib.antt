@@ -5,5 +5,4 @@ pub mod Input
 pub mod Names
 pub mod Outcome
 pub mod Plain
-pub mod Readable
 pub mod TopFaults

@@ -66,7 +66,8 @@ IsLinesOutcome mode lines given =
 
 -- what a mode gives for an input
 unfoldable pub IsInputOutcome : Mode → List ℕ → Outcome → Type 0
-IsInputOutcome mode input given = MatchBool (nat_lt input_limit (length input)) (given ≡ refused input_too_long_report) (IsLinesOutcome mode (lines_of input) given)
+IsInputOutcome mode input given = MatchBool (nat_lt input_limit (length input))
+    (given ≡ refused input_too_long_report) (IsLinesOutcome mode (lines_of input) given)
 
 -- what a command gives for an input and a hotstart
 unfoldable pub IsOutcome : Option Command → List ℕ → List ℕ → Outcome → Type 0

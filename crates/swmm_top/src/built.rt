@@ -1,12 +1,14 @@
 // Whether all is built that a run needs of a project.
 ghost use Rattle.std.specs.Prelude.{◌≡◌};
 ghost use Rattle.std.specs.List.{list_all};
-ghost use Rattle.swmm_top.specs.Built.{are_built_inflows, are_built_links, are_built_nodes, has_table, is_built, is_built_kind, is_built_link, is_built_node, is_constant, is_fixed, is_full, is_lossless};
+ghost use Rattle.swmm_top.specs.Built.{are_built_inflows, are_built_links, are_built_nodes};
+ghost use Rattle.swmm_top.specs.Built.{is_built, is_built_kind, is_built_link};
+ghost use Rattle.swmm_top.specs.Built.{is_built_node, is_conduit, is_constant, is_fixed};
 
-use net_types::{Damping, Inflow, Link, LinkKind, Node, NodeKind, Project, Section, Shape, Stage};
+use net_types::{Inflow, Link, LinkKind, Node, NodeKind, Project, Stage};
 
-/// Whether all is built that a run needs of a project: a run of another is refused. `built_is_told` says that the test of
-/// `specs/Built.antt` tells exactly that.
+/// Whether all is built that a run needs of a project: a run of another is refused. `built_is_told` says that
+/// the test of `specs/Built.antt` tells exactly that.
 ///
 /// Source: User's Manual, appendix D.
 #[tactic(auto, unfolding(crate::specs::Built::is_built))]
@@ -42,9 +44,6 @@ fn all_nodes(nodes: &[Node]) -> bool
 fn are_built_links(project: &Project) -> bool
     ensures { result ≡ are_built_links project.now }
 {
-    if !is_full(project.options.damping) {
-        return false;
-    }
     all_links(project.links.as_slice())
 }
 
@@ -95,38 +94,13 @@ fn is_fixed(stage: &Stage) -> bool
 fn is_built_link(link: &Link) -> bool
     ensures { result ≡ is_built_link link.now }
 {
-    is_lossless(&link.kind) && has_table(&link.section)
+    is_conduit(&link.kind)
 }
 
-// Whether a link is a conduit without losses.
-fn is_lossless(kind: &LinkKind) -> bool
-    ensures { result ≡ is_lossless kind.now }
+fn is_conduit(kind: &LinkKind) -> bool
+    ensures { result ≡ is_conduit kind.now }
 {
-    match kind {
-        LinkKind::Conduit {
-            entry6,
-            exit6,
-            avg6,
-            ..
-        } => *entry6 == 0 && *exit6 == 0 && *avg6 == 0,
-        LinkKind::Pump { .. } | LinkKind::Orifice { .. } | LinkKind::Weir { .. } => false,
-    }
-}
-
-// Whether the table of a section is built.
-fn has_table(section: &Option<Section>) -> bool
-    ensures { result ≡ has_table section.now }
-{
-    match section {
-        Some(section) => matches!(section.shape, Shape::RectOpen { .. }),
-        None => true,
-    }
-}
-
-fn is_full(damping: Damping) -> bool
-    ensures { result ≡ is_full damping }
-{
-    matches!(damping, Damping::Full)
+    matches!(kind, LinkKind::Conduit { .. })
 }
 
 fn is_constant(inflow: &Inflow) -> bool

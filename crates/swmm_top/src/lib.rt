@@ -14,13 +14,9 @@ mod input;
 mod laws;
 mod mode;
 mod names;
-#[cfg(test)]
-mod reach_tests;
 mod report;
 mod run;
 mod status;
-#[cfg(test)]
-mod tests;
 mod top;
 
 pub use built::is_built;

@@ -1,5 +1,6 @@
 // The report of an input.
-ghost use Rattle.std.specs.Prelude.{List as Sequence, ℕ, ◌≤◌, length, ◌≡◌, ◌⊎◌, [], ◌∷◌, Ok, Err, IfOk, OnOk, OnErr, IsErrOf};
+ghost use Rattle.std.specs.Prelude.{List as Sequence, ℕ, ◌≤◌, length, ◌≡◌, ◌⊎◌};
+ghost use Rattle.std.specs.Prelude.{[], ◌∷◌, Ok, Err, IfOk, OnOk, OnErr, IsErrOf};
 ghost use Rattle.fault_ports.specs.Output.{Puts};
 ghost use Rattle.inp_lines.specs.Lines.{lines_of};
 ghost use Rattle.inp_reader.specs.Reading.{ReadsAs};
@@ -7,10 +8,8 @@ ghost use Rattle.inp_reader.specs.Soundness.{AcceptsSound};
 ghost use Rattle.net_types.specs.Sound.{IsSound};
 ghost use Rattle.net_types.specs.Faults.{number_of};
 ghost use Rattle.project_check.specs.Faultless.{IsFaultless};
-ghost use Rattle.project_check.specs.Tables.{HasTables};
 ghost use Rattle.report_writer.specs.FaultReports.{input_too_long_report, line_faults_report, project_faults_report};
 ghost use Rattle.swmm_top.specs.Answers.{EndsReport, ReportsOutcome};
-ghost use Rattle.swmm_top.specs.Readable.{AcceptsTables};
 ghost use Rattle.swmm_top.specs.Input.{input_limit};
 ghost use Rattle.swmm_top.specs.Outcome.{answer_of, answer_unless, not_built, project_outcome};
 
@@ -53,9 +52,9 @@ fn report_read<W: Sink>(
     read: Read,
     rpt: &mut W,
 ) -> Result<Status, TopFault>
-    requires sound { AcceptsSound read }
-    requires tables { AcceptsTables read }
-    ensures outcome { (input : Sequence ℕ) → length input ≤ input_limit → ReadsAs (lines_of input) read → ReportsOutcome mode input (W.held rpt.old) (W.held rpt.new) result }
+    requires { AcceptsSound read }
+    ensures outcome { (input : Sequence ℕ) → length input ≤ input_limit → ReadsAs (lines_of input) read
+        → ReportsOutcome mode input (W.held rpt.old) (W.held rpt.new) result }
     ensures ends { EndsReport W.faults rpt.old rpt.new result }
 {
     match read {
@@ -89,8 +88,7 @@ fn report_project<W: Sink>(
     project: Project,
     rpt: &mut W,
 ) -> Result<Status, TopFault>
-    requires sound { IsSound project }
-    requires tables { HasTables project }
+    requires { IsSound project }
     ensures status { IfOk result (λ status. status ≡ (project_outcome mode project).status) }
     ensures report { Puts (W.held rpt.old) (W.held rpt.new) (project_outcome mode project).report result }
     ensures ends { EndsReport W.faults rpt.old rpt.new result }
@@ -111,7 +109,8 @@ fn report_checked<W: Sink>(
 ) -> Result<Status, TopFault>
     requires { faults.now ≡ [] → IsFaultless project }
     ensures status { IfOk result (λ status. status ≡ (answer_unless faults.now (answer_of mode project)).status) }
-    ensures report { Puts (W.held rpt.old) (W.held rpt.new) (answer_unless faults.now (answer_of mode project)).report result }
+    ensures report { Puts (W.held rpt.old) (W.held rpt.new)
+        (answer_unless faults.now (answer_of mode project)).report result }
     ensures ends { EndsReport W.faults rpt.old rpt.new result }
 {
     match faults.as_slice() {

@@ -1,9 +1,11 @@
 // The commands.
-ghost use Rattle.std.specs.Prelude.{◌≡◌, ◌≢◌, ◌⊎◌, Option, ◌+◌, ◌-◌, ◌^◌, ◌≤◌, ◌↔◌, min, [], None, Some, Ok, OnOk, OnErr, IfOk, IfErr, IsErrOf, IfSome, drop, take};
+ghost use Rattle.std.specs.Prelude.{◌≡◌, ◌≢◌, ◌⊎◌, Option, ◌+◌, ◌-◌, ◌^◌, ◌≤◌, ◌↔◌, min, [], None};
+ghost use Rattle.std.specs.Prelude.{Some, Ok, OnOk, OnErr, IfOk, IfErr, IsErrOf, IfSome, drop, take};
 ghost use Rattle.std.specs.Io.KnownBytes.{Appends, Keeps};
 ghost use Rattle.fault_ports.specs.Causes.{no_faults};
 ghost use Rattle.fault_ports.specs.Output.{AppendsPrefix, Puts};
-ghost use Rattle.swmm_top.specs.Answers.{BeforeWriting, EndsReport, FailsOnlyAt, GivesOutcome, HasCauses, ReadsToEnd, ReportsOutcome};
+ghost use Rattle.swmm_top.specs.Answers.{BeforeWriting, EndsReport, FailsOnlyAt, GivesOutcome};
+ghost use Rattle.swmm_top.specs.Answers.{HasCauses, ReadsToEnd, ReportsOutcome};
 ghost use Rattle.swmm_top.specs.CommandWords.{command_of, run_only, check_only};
 ghost use Rattle.swmm_top.specs.Input.{TakesFront, input_limit};
 
@@ -33,7 +35,8 @@ pub fn run_alone_top<S: Source, H: Source, W: Sink, K: Sink>(
 ) -> Result<Status, TopFault>
     // What it gives: the headline.
     ensures outcome { GivesOutcome (run_only (command_of words.now))
-        (S.left inp.old) (H.left hot_in.old) (W.held rpt.old) (W.held rpt.new) (K.held hot_out.old) (K.held hot_out.new) result }
+        (S.left inp.old) (H.left hot_in.old) (W.held rpt.old) (W.held rpt.new)
+        (K.held hot_out.old) (K.held hot_out.new) result }
     ensures no_command { (result ≡ Ok Status.Usage) ↔ (run_only (command_of words.now) ≡ None) }
 
     // A fault has its cause in the port's count.
@@ -102,7 +105,8 @@ pub fn swmm_top<R: Threads + Wait + Sync, S: Source, H: Source, W: Sink, K: Sink
 ) -> Result<Status, TopFault>
     // What it gives: the headline.
     ensures outcome { GivesOutcome (command_of words.now)
-        (S.left inp.old) (H.left hot_in.old) (W.held rpt.old) (W.held rpt.new) (K.held hot_out.old) (K.held hot_out.new) result }
+        (S.left inp.old) (H.left hot_in.old) (W.held rpt.old) (W.held rpt.new)
+        (K.held hot_out.old) (K.held hot_out.new) result }
     ensures no_command { (result ≡ Ok Status.Usage) ↔ (command_of words.now ≡ None) }
 
     // A fault has its cause in the port's count.

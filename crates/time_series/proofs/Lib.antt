@@ -1,1 +1,5 @@
-pub mod InflowLemmas
+pub mod SeriesLemmas
+pub mod SumLemmas
+pub mod AmountLemmas
+pub mod WalkLemmas
+pub mod ConstantLemmas

@@ -1,32 +1,42 @@
--- The lateral inflow of a node (User's Manual, section [INFLOWS]; the rounding is this project's profile).
-use Rattle.std.specs.Prelude.{◌≡◌, ℕ, ◌^◌, ◌==◌, [], None, if◌then◌else◌, ℤ, pos, neg_ℤ, ◌*ℤ◌}
+-- The lateral inflow of a node (User's Manual, sections [INFLOWS] and [DWF]; this project's profile).
+use Rattle.std.specs.Prelude.{◌≡◌, ℕ, ◌^◌, [], None, ℤ, pos, neg_ℤ, ◌+ℤ◌}
 use Rattle.std.specs.List.{All}
-use Rattle.fixed_num.specs.Ranges.{cut_of}
-use Rattle.fixed_num.specs.Rounding.{quo_of}
+use Rattle.calendar_steps.specs.Moment.{point_on}
+use Rattle.calendar_steps.specs.declared.point.CalendarPoint.{CalendarPoint}
+use Rattle.fixed_num.specs.Ranges.{cut_of, IsMoment}
 use Rattle.fixed_num.specs.Sums.{sum_over}
-use Rattle.inp_values.specs.Units.{flow_num, flow_den}
 use Rattle.net_types.specs.declared.inflows.Inflow.{Inflow}
-use Rattle.net_types.specs.declared.options.FlowUnits.{FlowUnits}
 use Rattle.net_types.specs.declared.project.Project.{Project}
+use Rattle.time_series.specs.Inflows.{dry_at, inflow_at}
 
--- an inflow is constant: it has neither a series nor a pattern; other inflows and dry weather flows aren't built yet
+-- a moment of a run, in ms since its start, lies in the years of the calendar
+abbrev pub IsRunMoment : Project → ℤ → Type 0
+IsRunMoment project moment = IsMoment (project.options.start +ℤ moment)
+
+-- what the calendar shows at a moment of a run
+abbrev pub run_point : Project → ℤ → CalendarPoint
+run_point project moment = point_on (project.options.start +ℤ moment)
+
+-- the sum of what all inflows and all dry weather flows add at a node
+unfoldable pub gross_lateral : Project → (node : ℕ) (moment : ℤ) → ℤ
+gross_lateral project node moment =
+    let point = run_point project moment in
+    sum_over (inflow_at project moment point node) project.inflows +ℤ sum_over (dry_at project point node) project.dry
+
+-- the lateral inflow of a node, in cm³/s: that sum brought into 10^12 to either side
+abbrev pub lateral_at : Project → (node : ℕ) (moment : ℤ) → ℤ
+lateral_at project node moment = cut_of (gross_lateral project node moment) (neg_ℤ (pos (10 ^ 12))) (pos (10 ^ 12))
+
+-- ---- constant inflows an inflow is constant: it has neither a series nor a pattern
 pub record IsConstant (inflow : Inflow) : Type 0 where
   pub series : inflow.series ≡ None
   pub pattern : inflow.pattern ≡ None
 
+-- a run has only constant inflows so far
 pub record HasBuiltInflows (project : Project) : Type 0 where
   pub each : All IsConstant project.inflows
   pub no_dry : project.dry ≡ []
 
--- a baseline in millionths of the flow unit, in cm³/s
-unfoldable pub flow_of : FlowUnits → (base6 : ℤ) → ℤ
-flow_of units base6 = quo_of (base6 *ℤ pos (flow_num units)) (pos (flow_den units) *ℤ pos 1_000_000)
-
--- what an inflow adds at a node
-abbrev pub inflow_at : FlowUnits → (node : ℕ) → Inflow → ℤ
-inflow_at units node inflow = if inflow.node == node then flow_of units inflow.base6 else pos 0
-
--- the lateral inflow of a node, in cm³/s: the sum of what all inflows add at it, brought into 10^12 to either side; it is the
--- same at all moments
-unfoldable pub lateral_of : Project → (node : ℕ) → ℤ
-lateral_of project node = cut_of (sum_over (inflow_at project.options.units node) project.inflows) (neg_ℤ (pos (10 ^ 12))) (pos (10 ^ 12))
+-- then the lateral inflow of a node is the same at all moments
+abbrev pub lateral_of : Project → (node : ℕ) → ℤ
+lateral_of project node = lateral_at project node (pos 0)

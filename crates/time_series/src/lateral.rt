@@ -1,64 +1,97 @@
 // The lateral inflow of a node.
-ghost use Rattle.std.specs.Prelude.{◌≡◌, ◌≤◌, ◌^◌, length};
-ghost use Rattle.std.specs.List.{All};
-ghost use Rattle.fixed_num.specs.Ranges.{IsWithin, IsFlow};
+ghost use Rattle.std.specs.Prelude.{◌≡◌, ◌*◌, ◌^◌, length, ◌+ℤ◌};
+ghost use Rattle.calendar_steps.specs.Moment.{IsPoint, point_on};
+ghost use Rattle.fixed_num.specs.Ranges.{IsFlow, IsWithin};
 ghost use Rattle.fixed_num.specs.Sums.{sum_over};
-ghost use Rattle.net_types.specs.Ranges.{InflowInRange};
-ghost use Rattle.net_types.specs.Sound.{IsSound};
-ghost use Rattle.time_series.specs.LateralFlow.{HasBuiltInflows, flow_of as flow_of_base, inflow_at as part_at, lateral_of};
+ghost use Rattle.net_types.specs.Ranges.{DryFlowInRange, InflowInRange};
+ghost use Rattle.net_types.specs.Sound.{DryFlowNames, InflowNames, IsSound};
+ghost use Rattle.time_series.specs.Inflows.{dry_at as dry_part, inflow_at as inflow_part};
+ghost use Rattle.time_series.specs.LateralFlow.{gross_lateral, lateral_at, run_point, IsRunMoment};
 
-use fixed_num::{RECORD_LIMIT, cut, quo};
-use inp_values::{Quantity, unit_of};
-use net_types::{FlowUnits, Inflow, Project};
+use crate::amounts::{dry_flow, inflow_flow};
+use calendar_steps::{CalendarPoint, point_at};
+use fixed_num::cut;
+use net_types::{DryFlow, Inflow, Project};
 
-/// The lateral inflow of a node at a moment in ms since the start, in cm³/s.
+/// The lateral inflow of a node at a moment in ms since the start of the run, in cm³/s.
 ///
-/// It is what the node's inflows add up to, brought into 10^12 to either side. Constant inflows are the same at all
-/// moments. Source: User's Manual, section [INFLOWS]; the rounding is this project's profile.
-pub fn lateral_flow(project: &Project, node: u32, _moment: i64) -> i64
+/// It is what all inflows and dry weather flows of the node add up to, brought into 10^12 to either side. The moment
+/// lies in the years 1900 to 2200. A run asks [`lateral_flows`](crate::lateral_flows) for all nodes at once. Source:
+/// User's Manual, sections [INFLOWS] and [DWF]; the rounding is this project's profile.
+pub fn lateral_flow(project: &Project, node: u32, moment: i64) -> i64
     requires sound { IsSound project.now }
-    requires built { HasBuiltInflows project.now }
-    ensures value { result ≡ lateral_of project.now node }
+    requires calendar { IsRunMoment project.now moment }
+    ensures value { result ≡ lateral_at project.now node moment }
     ensures range { IsFlow result }
 {
-    let total = total_flow(project.options.units, project.inflows.as_slice(), node);
-    cut(total, -1_000_000_000_000, 1_000_000_000_000) as i64
+    let at = run_point(project, moment);
+    let gross = inflow_sum(project, node, moment, &at) + dry_sum(project, node, &at);
+    cut(gross, -1_000_000_000_000, 1_000_000_000_000) as i64
 }
 
-// What inflows add up to at a node, in cm³/s.
-fn total_flow(units: FlowUnits, inflows: &[Inflow], node: u32) -> i128
-    requires few { length inflows.now ≤ RECORD_LIMIT }
-    requires each { All InflowInRange inflows.now }
-    ensures { result ≡ sum_over (part_at units node) inflows.now }
+// What the calendar shows at a moment of a run.
+pub(crate) fn run_point(project: &Project, moment: i64) -> CalendarPoint
+    requires { IsRunMoment project.now moment }
+    ensures value { result ≡ run_point project.now moment }
+    ensures range { IsPoint result }
+{
+    point_at(project.options.start, moment)
+}
+
+// What all inflows add up to at a node, in cm³/s.
+fn inflow_sum(project: &Project, node: u32, moment: i64, at: &CalendarPoint) -> i128
+    requires sound { IsSound project.now }
+    requires at { IsPoint at.now }
+    ensures value { result ≡ sum_over (inflow_part project.now moment at.now node) project.now.inflows }
+    ensures range { IsWithin (10 ^ 35) result }
 {
     let mut total = 0;
-    for inflow in inflows {
-        total += inflow_at(units, node, inflow);
+    for inflow in project.inflows.as_slice() {
+        total += inflow_at(project, node, inflow, moment, at);
     }
     total
 }
 
 // What an inflow adds at a node, in cm³/s.
-fn inflow_at(units: FlowUnits, node: u32, inflow: &Inflow) -> i128
-    requires { InflowInRange inflow.now }
-    ensures value { result ≡ part_at units node inflow.now }
-    ensures range { IsWithin (10 ^ 20) result }
+fn inflow_at(project: &Project, node: u32, inflow: &Inflow, moment: i64, at: &CalendarPoint) -> i128
+    requires sound { IsSound project.now }
+    requires range { InflowInRange inflow.now }
+    requires names { InflowNames project.now inflow.now }
+    requires at { IsPoint at.now }
+    ensures value { result ≡ inflow_part project.now moment at.now node inflow.now }
+    ensures range { IsWithin (10 ^ 30) result }
 {
     if inflow.node == node {
-        return flow_of(units, inflow);
+        return inflow_flow(project, inflow, moment, at);
     }
     0
 }
 
-// The baseline of an inflow, in cm³/s.
-fn flow_of(units: FlowUnits, inflow: &Inflow) -> i128
-    requires { InflowInRange inflow.now }
-    ensures value { result ≡ flow_of_base units inflow.now.base6 }
-    ensures range { IsWithin (10 ^ 20) result }
+// What all dry weather flows add up to at a node, in cm³/s.
+fn dry_sum(project: &Project, node: u32, at: &CalendarPoint) -> i128
+    requires sound { IsSound project.now }
+    requires at { IsPoint at.now }
+    ensures value { result ≡ sum_over (dry_part project.now at.now node) project.now.dry }
+    ensures range { IsWithin (10 ^ 35) result }
 {
-    let unit = unit_of(units, Quantity::Flow);
-    quo(
-        inflow.base6 as i128 * unit.num as i128,
-        unit.den as i128 * 1_000_000,
-    )
+    let mut total = 0;
+    for dry in project.dry.as_slice() {
+        total += dry_at(project, node, dry, at);
+    }
+    total
+}
+
+// What a dry weather flow adds at a node, in cm³/s.
+fn dry_at(project: &Project, node: u32, dry: &DryFlow, at: &CalendarPoint) -> i128
+    requires sound { IsSound project.now }
+    requires range { DryFlowInRange dry.now }
+    requires names { DryFlowNames project.now dry.now }
+    requires at { IsPoint at.now }
+    ensures value { result ≡ dry_part project.now at.now node dry.now }
+    ensures range { IsWithin (10 ^ 30) result }
+{
+    if dry.node == node {
+        return dry_flow(project, dry, at);
+    }
+    0
 }

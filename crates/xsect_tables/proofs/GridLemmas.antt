@@ -1,7 +1,8 @@
 -- The grid of heights: it begins at 0, ends at the full height, and rises at each step.
-use Rattle.std.proofs.Common.{◌≡◌, ℕ, ◌+◌, ◌*◌, ◌/◌, ◌^◌, ◌<◌, ◌≤◌, ℤ, pos, negsuc, ◌≤ℤ◌, sym, refl, subst, arith}
+use Rattle.std.proofs.Common.{◌≡◌, ℕ, ◌+◌, ◌*◌, ◌/◌, ◌^◌, ◌<◌, ◌≤◌, ℤ, pos, negsuc, ◌+ℤ◌, ◌*ℤ◌, ◌≤ℤ◌, sym, refl, subst, arith}
 use Rattle.std.proofs.lemmas.Int.{ints}
 use Rattle.std.proofs.lemmas.Nat.{mul-le}
+use Rattle.fixed_num.proofs.Bounds.{quo_of-mono, quo_of-exact, quo_of-from_zero, lt_number}
 use Rattle.fixed_num.specs.Ranges.{IsBetween}
 use Rattle.fixed_num.specs.Rounding.{quo_of, rounded}
 use Rattle.xsect_tables.specs.SectionTable.{grid_height}
@@ -44,11 +45,24 @@ pub full_is : {full : ℤ} → IsBetween (pos 1_000) full (pos (10 ^ 9)) → (n 
 full_is {full = pos n} h = (n, refl, omega (arith, ints), omega (arith, ints))
 full_is {full = negsuc n} h = absurd (omega (arith, ints))
 
-pub grid_between : {full : ℤ} → IsBetween (pos 1_000) full (pos (10 ^ 9)) → (i : ℕ) → i ≤ 200 → IsBetween (pos 0) (grid_height full i) (pos (10 ^ 9))
-grid_between {full = pos n} h i most =
+pub grid_in_full : {full : ℤ} → IsBetween (pos 1_000) full (pos (10 ^ 9)) → (i : ℕ) → i ≤ 200 → IsBetween (pos 0) (grid_height full i) full
+grid_in_full {full = pos n} h i most =
     let below : grid n i ≤ n = subst (λ (z : ℕ). grid n i ≤ z) (grid-last n) (grid-mono n i 200 most) in
-    subst (λ (z : ℤ). IsBetween (pos 0) z (pos (10 ^ 9))) (sym (grid_is n i)) (record { from = omega (arith, ints); to = omega (arith, ints) })
-grid_between {full = negsuc n} h i most = absurd h.from.le
+    subst (λ (z : ℤ). IsBetween (pos 0) z (pos n)) (sym (grid_is n i)) (record { from = omega (arith, ints); to = omega (arith, ints, below) })
+grid_in_full {full = negsuc n} h i most = absurd h.from.le
+
+pub within_full : {full y : ℤ} → IsBetween (pos 1_000) full (pos (10 ^ 9)) → IsBetween (pos 0) y full → IsBetween (pos 0) y (pos (10 ^ 9))
+within_full f h = record { from = h.from; to = omega (arith, ints, h.to, f.to) }
+
+pub grid_between : {full : ℤ} → IsBetween (pos 1_000) full (pos (10 ^ 9)) → (i : ℕ) → i ≤ 200 → IsBetween (pos 0) (grid_height full i) (pos (10 ^ 9))
+grid_between h i most = within_full h (grid_in_full h i most)
+
+-- the middle of two depths up to the full height
+pub middle_in_full : {full low high : ℤ} → IsBetween (pos 0) low full → IsBetween (pos 0) high full → IsBetween (pos 0) (quo_of (low +ℤ high) (pos 2)) full
+middle_in_full {full} {low} {high} l h =
+    let most : (low +ℤ high) ≤ℤ (full *ℤ pos 2) = omega (arith, ints, l.to, h.to) in
+    let below = quo_of-mono (low +ℤ high) (full *ℤ pos 2) (pos 2) most in
+    record { from = quo_of-from_zero (low +ℤ high) (pos 2) (omega (arith, ints, l.from, h.from)); to = subst (λ (z : ℤ). quo_of (low +ℤ high) (pos 2) ≤ℤ z) (quo_of-exact full (pos 2) (lt_number tt)) below }
 
 pub grid_order : {full : ℤ} → IsBetween (pos 1_000) full (pos (10 ^ 9)) → (i k : ℕ) → i ≤ k → grid_height full i ≤ℤ grid_height full k
 grid_order {full = pos n} h i k order =

@@ -1,6 +1,8 @@
 pub mod GridLemmas
 pub mod RowLemmas
 pub mod StripLemmas
+pub mod WidthLemmas
+pub mod RatioLemmas
 pub mod LookUpLemmas
 pub mod TableLemmas
 pub mod FlowLemmas

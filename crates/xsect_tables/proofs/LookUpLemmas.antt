@@ -8,8 +8,9 @@ use Rattle.fixed_num.specs.Ranges.{IsBetween, cut_of}
 use Rattle.fixed_num.specs.Roots.{greatest}
 use Rattle.fixed_num.proofs.Bounds.{between_lerp, between_cut, quo_of-exact, cut_of-most}
 use Rattle.xsect_tables.specs.SectionTable.{entry, grid_height, IsGrid, RowBetween}
-use Rattle.xsect_tables.specs.LookUps.{IsStrip}
-use Rattle.xsect_tables.specs.LookUps.{strip_at, row_at}
+use Rattle.xsect_tables.specs.LookUps.{IsPlace, IsStrip}
+use Rattle.xsect_tables.specs.declared.look_up.Place.{Place}
+use Rattle.xsect_tables.specs.LookUps.{strip_at, row_at, value_at}
 use Rattle.xsect_tables.proofs.GridLemmas.{grid, full_is, grid_between, grid_order, grid_is, grid-first, grid-last, grid-mono, grid-rises, grid-below, grid-above}
 
 -- ---- the greatest number that passes a test
@@ -180,7 +181,7 @@ depth_around {heights = heights} {depth = depth} y g e h =
     subst (IsStrip heights depth) (sym h) (strip_found g inside)
 
 pub row_at-between : {a b : ℤ} {heights row : List ℤ} (y : ℤ) → IsGrid heights → RowBetween a row b → IsBetween a (row_at heights row y) b
-unfolding row_at
+unfolding row_at value_at
 row_at-between {heights = heights} {row = row} y g r =
     let depth = cut_of y (pos 0) (entry heights 200) in
     let s : IsStrip heights depth (strip_at heights depth) = strip_found g (depth_within y g) in
@@ -200,7 +201,7 @@ top_strip {heights = heights} g =
     rw f.1 (strip_is f.0 f.0 199 g f.1 (omega arith) low (λ h. absurd (omega (arith, h))))
 
 pub row_at-top : {heights : List ℤ} (row : List ℤ) {y : ℤ} → IsGrid heights → entry heights 200 ≤ℤ y → row_at heights row y ≡ entry row 200
-unfolding row_at
+unfolding row_at value_at
 row_at-top {heights = heights} row {y = y} g h =
     let least : pos 0 ≤ℤ entry heights 200 = omega (arith, ints, g.full.from) in
     let top = cut_of-most y (pos 0) (entry heights 200) h least in
@@ -208,3 +209,8 @@ row_at-top {heights = heights} row {y = y} g h =
     let inside : IsBetween (pos 0) (entry heights 200) (entry heights 200) = record { from = least; to = omega (arith, ints) } in
     let around : IsStrip heights (entry heights 200) 199 = subst (IsStrip heights (entry heights 200)) strip (strip_found g inside) in
     rw (top, strip) (lerp-end (entry heights 199) (entry row 199) (entry heights 200) (entry row 200) around.apart)
+
+-- ---- a row at the depth of a place
+pub placed : {heights : List ℤ} (row : List ℤ) {y : ℤ} {place : Place} → IsPlace heights y place → value_at heights row place.depth place.strip ≡ row_at heights row y
+unfolding row_at
+placed row p = cc (p.depth, p.strip)

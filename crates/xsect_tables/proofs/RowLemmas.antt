@@ -2,7 +2,7 @@
 use Rattle.std.proofs.Common.{◌≡◌, ℕ, ◌+◌, ◌<◌, ◌≤◌, List, length, set, replicate, ℤ, pos, sym, subst, ◌∙◌, arith}
 use Rattle.std.proofs.lemmas.List.{length-set, length-replicate}
 use Rattle.std.proofs.lemmas.List.Edits.{fill_by_more}
-use Rattle.std.proofs.lemmas.List.FromFn.{fill_by_all, get_or-map-range_with_len}
+use Rattle.std.proofs.lemmas.List.FromFn.{fill_by_all, get_or-map-range_with_len, length-map-range_with_len}
 use Rattle.xsect_tables.specs.SectionTable.{entry, row_of}
 
 -- a row of 201 numbers, of which the first n are those of f
@@ -32,3 +32,13 @@ filled_all f row n h filled = fill_by_all f row 201 (pos 0) filled.count (λ k m
 pub entry-row_of : (f : ℕ → ℤ) (k : ℕ) → k ≤ 200 → entry (row_of f) k ≡ f k
 unfolding row_of
 entry-row_of f k h = get_or-map-range_with_len f 0 201 k k (pos 0) (omega arith) (omega arith)
+
+long : (f : ℕ → ℤ) → length (row_of f) ≡ 201
+unfolding row_of
+long f = length-map-range_with_len f 0 201
+
+-- a row of which the last number alone is another
+pub last_changed : (f g : ℕ → ℤ) (v : ℤ) → ((k : ℕ) → k < 200 → f k ≡ g k) → v ≡ g 200 → set (row_of f) 200 v ≡ row_of g
+last_changed f g v same last =
+    let most : Filled g (row_of f) 200 = record { count = long f; each = λ k h. entry-row_of f k (omega (arith, h)) ∙ same k h } in
+    filled_all g (set (row_of f) 200 v) 201 (omega arith) (filled_more g (row_of f) 200 v (omega arith) most last)

@@ -1,206 +1,207 @@
--- What holds of the rows of every table.
-use Rattle.std.proofs.Common.{◌≡◌, ℕ, zero, suc, ◌+◌, ◌-◌, ◌*◌, ◌^◌, ◌<◌, ◌≤◌, List, ℤ, pos, negsuc, ◌+ℤ◌, ◌-ℤ◌, ◌*ℤ◌, ◌≤ℤ◌, sym, refl, ap, subst, ◌∙◌, add-one, inl, inr, arith}
-use Rattle.std.proofs.lemmas.Bool.{cases_lt}
-use Rattle.std.proofs.lemmas.Int.{ints}
-use Rattle.std.proofs.lemmas.Nat.{mul-le}
-use Rattle.fixed_num.specs.Ranges.{IsBetween, IsWithin}
+-- What holds of the rows of every table, and the range of each look-up.
+use Rattle.std.proofs.Common.{◌≡◌, ℕ, ◌+◌, ◌*◌, ◌^◌, ◌<◌, ◌≤◌, Bool, true, false, cond, ◌==◌, ◌&&◌, List, ℤ, pos, ◌+ℤ◌, ◌-ℤ◌, ◌*ℤ◌, ◌≤ℤ◌, ◌<ℤ◌, int_lt, sym, refl, ap, subst, ◌∙◌, arith}
+use Rattle.std.specs.Int.{int_max, int_min}
+use Rattle.std.proofs.lemmas.Bool.Decides.{nat_tests}
+use Rattle.std.proofs.lemmas.Int.{ints, clamps}
+use Rattle.fixed_num.specs.Ranges.{IsBetween, IsWithin, IsFall, IsFullHeight}
 use Rattle.fixed_num.specs.Rounding.{quo_of}
-use Rattle.fixed_num.proofs.Bounds.{between_quo_by, within_between, within_sub, quo_of-mono, quo_of-exact, le_number, lt_number}
+use Rattle.fixed_num.specs.Sums.{sum_below}
+use Rattle.fixed_num.proofs.Bounds.{between_quo_by, between_mul, between_up, quo_of-mono, quo_of-exact, le_number, lt_number}
+use Rattle.net_types.specs.Ranges.{SectionInRange, ShapeInRange}
 use Rattle.net_types.specs.declared.network.Section.{Section}
 use Rattle.net_types.specs.declared.network.Shape.{Shape}
 use Rattle.net_types.specs.declared.network.Shape.TheVariants.{RectOpen, RectClosed, Trapezoidal, Triangular, Circular}
-use Rattle.xsect_tables.specs.Sections.{IsSection, IsRectOpen, HasSizes, width_at, shape_width}
-use Rattle.xsect_tables.specs.SectionTable.{SectionTable, entry, row_of, table_of, full_area, full_height, grid_height, grid_width, grid_area, grid_perimeter, strip_area, strip_sides, RowBetween, IsTable}
-use Rattle.fixed_num.specs.Sums.{sum_below}
-use Rattle.xsect_tables.specs.LookUps.{area_of, width_of, perimeter_of}
-use Rattle.xsect_tables.proofs.LookUpLemmas.{row_at-between}
-use Rattle.xsect_tables.proofs.GridLemmas.{grid, full_is, grid_is, grid-first, grid-last, grid-mono, grid_between}
+use Rattle.xsect_tables.specs.Sections.{top_width}
+use Rattle.xsect_tables.specs.SectionTable.{SectionTable, entry, row_of, table_of, full_area, full_height, grid_height, grid_width, grid_area, grid_perimeter, wetted_perimeter, strip_area, strip_sides, RowBetween, IsTable}
+use Rattle.xsect_tables.specs.LookUps.{IsStrip, row_at, value_at, strip_at, slot_width, slot_area, is_in_slot, area_of, width_of, least_width, perimeter_of}
+use Rattle.xsect_tables.proofs.GridLemmas.{grid_is, grid-last, full_is}
+use Rattle.xsect_tables.proofs.LookUpLemmas.{row_at-between, row_at-top, strip_found, depth_within}
+use Rattle.xsect_tables.proofs.RatioLemmas.{lerp_wet}
 use Rattle.xsect_tables.proofs.RowLemmas.{entry-row_of}
-use Rattle.xsect_tables.proofs.StripLemmas.{sides_between, sum_between, area_none}
+use Rattle.xsect_tables.proofs.StripLemmas.{sum_between, sum_rises, sum_times_most, area_none}
+use Rattle.xsect_tables.proofs.WidthLemmas.{grid_width-between, strip_area-between, strip_sides-between, strip_wet}
 
--- ---- a rectangular open section of width b and full height n
-record IsRect (section : Section) (b n : ℕ) : Type 0 where
-  width : (y : ℤ) → width_at section y ≡ pos b
-  full : section.full ≡ pos n
-  range : IsBetween (pos 1_000) section.full (pos (10 ^ 9))
-  wide : b ≤ 10 ^ 10
-  low : 1_000 ≤ n
-  high : n ≤ 10 ^ 9
-
-wide_rect : (section : Section) (width : ℤ) → IsSection section → section.shape ≡ RectOpen width → IsBetween (pos 0) width (pos (10 ^ 10)) → (b : ℕ) × (n : ℕ) × IsRect section b n
-unfolding width_at
-wide_rect section (pos b) s e h =
-    let f = full_is s.full in
-    (b, f.0, record { width = λ y. ap (λ (z : Shape). shape_width z section.full y) e; full = f.1; range = s.full; wide = omega (arith, ints, h.to); low = f.2; high = f.3 })
-wide_rect section (negsuc b) s e h = absurd h.from.le
-
-rect : (section : Section) → IsSection section → IsRectOpen section.shape → (b : ℕ) × (n : ℕ) × IsRect section b n
-rect section s open_shape = by section.shape refl s.sizes open_shape
-  where
-    by : (shape : Shape) → section.shape ≡ shape → HasSizes shape → IsRectOpen shape → (b : ℕ) × (n : ℕ) × IsRect section b n
-    by (RectOpen width) e sizes o = wide_rect section width s e sizes
-    by (RectClosed width) e sizes o = absurd o
-    by (Trapezoidal bottom left6 right6) e sizes o = absurd o
-    by (Triangular top) e sizes o = absurd o
-    by Circular e sizes o = absurd o
-
-height_of : {section : Section} {b n : ℕ} → IsRect section b n → (i : ℕ) → grid_height section.full i ≡ pos (grid n i)
-height_of {n = n} r i = ap (λ (z : ℤ). grid_height z i) r.full ∙ grid_is n i
-
--- the strips below a grid height are together the width by that height
-strip_is : (b low high : ℕ) → low ≤ high → pos (b * low) +ℤ pos b *ℤ (pos high -ℤ pos low) ≡ pos (b * high)
-strip_is b low high h =
-    let d : pos high -ℤ pos low ≡ pos (high - low) = omega (arith, ints) in
-    let e : high ≡ low + (high - low) = omega arith in
-    let f : b * high ≡ b * low + b * (high - low) = ap (λ (z : ℕ). b * z) e ∙ omega arith in
-    rw d (ap pos (sym f))
-
-strips : {section : Section} {b n : ℕ} → IsRect section b n → (i : ℕ) → sum_below (strip_area section) i ≡ pos (b * grid n i)
-unfolding strip_area
-strips {b = b} {n = n} r zero = ap pos (let e : 0 ≡ b * grid n 0 = omega (arith, ap (λ (z : ℕ). b * z) (grid-first n)) in e)
-strips {section = section} {b = b} {n = n} r (suc i) =
-    let below = strips r i in
-    let w = r.width (quo_of (grid_height section.full i +ℤ grid_height section.full (i + 1)) (pos 2)) in
-    let low = height_of r i in
-    let high = height_of r (i + 1) in
-    let step = strip_is b (grid n i) (grid n (i + 1)) (grid-mono n i (i + 1) (omega arith)) in
-    let same : grid n (i + 1) ≡ grid n (suc i) = ap (grid n) (add-one i) in
-    cc (below, w, low, high, step, same)
-
-areas : {section : Section} {b n : ℕ} → IsRect section b n → (i : ℕ) → grid_area section i ≡ quo_of (pos (b * grid n i)) (pos 1_000_000)
+-- ---- the rows of a section
+pub grid_area-between : (section : Section) (i : ℕ) → SectionInRange section → i ≤ 200 → IsBetween (pos 0) (grid_area section i) (pos (10 ^ 18))
 unfolding grid_area
-areas r i = ap (λ (z : ℤ). quo_of z (pos 1_000_000)) (strips r i)
+grid_area-between section i s h =
+    let sum = sum_between (strip_area section) (3 * 10 ^ 20) i (λ k below. strip_area-between section k s (omega (arith, h, below))) in
+    let wide : IsBetween (pos 0) (sum_below (strip_area section) i) (pos (10 ^ 23)) = record { from = sum.from; to = omega (arith, ints, sum.to, h) } in
+    between_up (between_quo_by {y = pos 1_000_000} 1_000_000 wide (le_number tt) tt) tt tt
 
-areas_rise : {section : Section} {b n : ℕ} → IsRect section b n → (i : ℕ) → grid_area section i ≤ℤ grid_area section (i + 1)
-areas_rise {section = section} {b = b} {n = n} r i =
-    let below : b * grid n i ≤ b * grid n (i + 1) = mul-le b (grid n i) b (grid n (i + 1)) (omega arith) (grid-mono n i (i + 1) (omega arith)) in
-    let order : pos (b * grid n i) ≤ℤ pos (b * grid n (i + 1)) = omega (arith, ints, below) in
-    rw (areas r i, areas r (i + 1)) (quo_of-mono _ _ (pos 1_000_000) order)
+-- no area below a grid height is greater than the full area
+pub grid_area-full : (section : Section) (i : ℕ) → SectionInRange section → i ≤ 200 → IsBetween (pos 0) (grid_area section i) (grid_area section 200)
+unfolding grid_area
+grid_area-full section i s h =
+    let from = (grid_area-between section i s h).from in
+    let order = sum_rises (strip_area section) i 200 h (λ k below. (strip_area-between section k s below).from) in
+    record { from = from; to = quo_of-mono _ _ (pos 1_000_000) order }
 
-area_most : {section : Section} {b n : ℕ} → IsRect section b n → grid_area section 200 ≤ℤ pos (10 ^ 15)
-area_most {b = b} {n = n} r =
-    let product : b * grid n 200 ≤ 10 ^ 10 * 10 ^ 9 = mul-le b (grid n 200) (10 ^ 10) (10 ^ 9) r.wide (omega (arith, grid-last n, r.high)) in
-    let within : IsBetween (pos 0) (pos (b * grid n 200)) (pos (10 ^ 19)) = record { from = omega (arith, ints); to = omega (arith, ints, product) } in
-    let q = between_quo_by {y = pos 1_000_000} 1_000_000 within (le_number tt) tt in
-    rw (areas r 200) (omega (arith, ints, q.to))
+sides-between : (section : Section) (i : ℕ) → SectionInRange section → i ≤ 200 → IsBetween (pos 0) (sum_below (strip_sides section) i) (pos (10 ^ 15))
+sides-between section i s h =
+    let sum = sum_between (strip_sides section) (10 ^ 12) i (λ k below. strip_sides-between section k s (omega (arith, h, below))) in
+    record { from = sum.from; to = omega (arith, ints, sum.to, h) }
 
-area_wet : {section : Section} {b n : ℕ} → IsRect section b n → grid_area section 200 ≤ℤ (pos 1_000 *ℤ pos b)
-area_wet {b = b} {n = n} r =
-    let product : b * grid n 200 ≤ b * 10 ^ 9 = mul-le b (grid n 200) b (10 ^ 9) (omega arith) (omega (arith, grid-last n, r.high)) in
-    let order : pos (b * grid n 200) ≤ℤ ((pos 1_000 *ℤ pos b) *ℤ pos 1_000_000) = omega (arith, ints, product) in
-    let most = quo_of-mono _ _ (pos 1_000_000) order in
-    let exact = quo_of-exact (pos 1_000 *ℤ pos b) (pos 1_000_000) (lt_number tt) in
-    rw (areas r 200) (subst (λ (z : ℤ). quo_of (pos (b * grid n 200)) (pos 1_000_000) ≤ℤ z) exact most)
-
-widths_are : {section : Section} {b n : ℕ} → IsRect section b n → (i : ℕ) → grid_width section i ≡ pos b
-unfolding grid_width
-widths_are r i = r.width _
-
-sides_are : {section : Section} {b n : ℕ} → IsRect section b n → (i : ℕ) → i < 200 → IsBetween (pos 0) (strip_sides section i) (pos (3 * 10 ^ 10))
-unfolding strip_sides
-sides_are {section = section} {b = b} r i h =
-    let low = within_between (grid_between r.range i (omega (arith, h))) in
-    let high = within_between (grid_between r.range (i + 1) (omega (arith, h))) in
-    let wide : IsWithin (10 ^ 10) (pos b) = record { within = r.wide } in
-    let width = λ (y : ℤ). subst (IsWithin (10 ^ 10)) (sym (r.width y)) wide in
-    sides_between (within_sub high low) (within_sub (width (grid_height section.full (i + 1))) (width (grid_height section.full i)))
-
-perimeter_between : {section : Section} {b n : ℕ} → IsRect section b n → (i : ℕ) → i ≤ 200 → IsBetween (pos b) (grid_perimeter section i) (pos (10 ^ 13))
+pub grid_perimeter-between : (section : Section) (i : ℕ) → SectionInRange section → i ≤ 200 → IsBetween (pos 0) (grid_perimeter section i) (pos (2 * 10 ^ 15))
 unfolding grid_perimeter
-perimeter_between {section = section} r i h =
-    let sides = sum_between (strip_sides section) (3 * 10 ^ 10) i (λ k below. sides_are r k (omega (arith, h, below))) in
-    rw (widths_are r 0) (record { from = omega (arith, ints, sides.from); to = omega (arith, ints, sides.to, r.wide, h) })
+grid_perimeter-between section i s h =
+    let bottom = grid_width-between section 0 s (omega arith) in
+    let sides = sides-between section i s h in
+    record { from = omega (arith, ints, bottom.from, sides.from); to = omega (arith, ints, bottom.to, sides.to) }
 
-bottom_is : {section : Section} {b n : ℕ} → IsRect section b n → grid_perimeter section 0 ≡ pos b
-unfolding grid_perimeter
-bottom_is {b = b} r = let same : pos b +ℤ pos 0 ≡ pos b = omega (arith, ints) in ap (λ (z : ℤ). z +ℤ pos 0) (widths_are r 0) ∙ same
+pub top-between : (shape : Shape) → ShapeInRange shape → IsBetween (pos 0) (top_width shape) (pos (10 ^ 10))
+top-between (RectOpen width) s = record { from = omega (arith, ints); to = omega (arith, ints) }
+top-between (RectClosed width) s = s
+top-between (Trapezoidal bottom left6 right6) s = record { from = omega (arith, ints); to = omega (arith, ints) }
+top-between (Triangular top) s = record { from = omega (arith, ints); to = omega (arith, ints) }
+top-between Circular s = record { from = omega (arith, ints); to = omega (arith, ints) }
+
+pub wetted_below : (section : Section) (k : ℕ) → k < 200 → grid_perimeter section k ≡ wetted_perimeter section k
+unfolding wetted_perimeter
+wetted_below section k h = let e : (k == 200) ≡ false = grind (arith, nat_tests, h) in rw e refl
+
+pub wetted_last : (section : Section) (sides top : ℤ) → sides ≡ grid_perimeter section 200 → top ≡ top_width section.shape → sides +ℤ top ≡ wetted_perimeter section 200
+unfolding wetted_perimeter
+wetted_last section sides top e f = cc (e, f)
+
+-- at each height at least bottom and sides are wetted
+wetted-above : (section : Section) (i : ℕ) → SectionInRange section → i ≤ 200 → IsBetween (grid_perimeter section i) (wetted_perimeter section i) (pos (10 ^ 18))
+unfolding wetted_perimeter
+wetted-above section i s h = by (i == 200) (λ t. grind (arith, t))
+  where
+    by : (test : Bool) → (test ≡ true → i ≡ 200) → IsBetween (grid_perimeter section i) (cond test (grid_perimeter section 200 +ℤ top_width section.shape) (grid_perimeter section i)) (pos (10 ^ 18))
+    by true e =
+        let sides = grid_perimeter-between section i s h in
+        let top = top-between section.shape s.shape_in in
+        subst (λ (k : ℕ). IsBetween (grid_perimeter section i) (grid_perimeter section k +ℤ top_width section.shape) (pos (10 ^ 18))) (e refl)
+        (record { from = omega (arith, ints, top.from); to = omega (arith, ints, sides.to, top.to) })
+    by false e = let sides = grid_perimeter-between section i s h in record { from = omega (arith, ints); to = omega (arith, ints, sides.to) }
+
+grid_wet : (section : Section) (i : ℕ) → SectionInRange section → i ≤ 200 → grid_area section i ≤ℤ (pos 10_000_000 *ℤ grid_perimeter section i)
+unfolding grid_area grid_perimeter
+grid_wet section i s h =
+    let bottom = grid_width-between section 0 s (omega arith) in
+    let strips = sum_times_most (strip_area section) (strip_sides section) i (λ k below. strip_wet section k s (omega (arith, h, below))) in
+    let wet = grid_width section 0 +ℤ sum_below (strip_sides section) i in
+    let order : sum_below (strip_area section) i ≤ℤ ((pos 10_000_000 *ℤ wet) *ℤ pos 1_000_000) = omega (arith, ints, strips, bottom.from) in
+    subst (λ (z : ℤ). grid_area section i ≤ℤ z) (quo_of-exact (pos 10_000_000 *ℤ wet) (pos 1_000_000) (lt_number tt)) (quo_of-mono _ _ (pos 1_000_000) order)
+
+wetted_wet : (section : Section) (i : ℕ) → SectionInRange section → i ≤ 200 → grid_area section i ≤ℤ (pos 10_000_000 *ℤ int_max (wetted_perimeter section i) (pos 1))
+wetted_wet section i s h =
+    let area = grid_wet section i s h in
+    let more = wetted-above section i s h in
+    omega (arith, ints, clamps, area, more.from)
 
 -- ---- the whole table
-pub table_is : (section : Section) → IsSection section → IsRectOpen section.shape → IsTable (table_of section)
+grid_top : (full : ℤ) → IsFullHeight full → grid_height full 200 ≡ full
+grid_top full f = let n = full_is f in rw n.1 (grid_is n.0 200 ∙ subst (λ (k : ℕ). pos k ≡ pos n.0) (sym (grid-last n.0)) refl)
+
+pub full_height_is : (section : Section) → SectionInRange section → full_height (table_of section) ≡ section.full
 unfolding table_of
-table_is section s open_shape =
-    let found = rect section s open_shape in
-    let b = found.0 in
-    let n = found.1 in
-    let r = found.2 in
-    let last : entry (row_of (grid_height section.full)) 200 ≡ section.full = entry-row_of (grid_height section.full) 200 (omega arith) ∙ height_of r 200 ∙ ap pos (grid-last n) ∙ sym r.full in
-    let area = λ (i : ℕ) (h : i ≤ 200). entry-row_of (grid_area section) i h in
-    let bottom : entry (row_of (grid_perimeter section)) 0 ≡ pos b = entry-row_of (grid_perimeter section) 0 (omega arith) ∙ bottom_is r in
-    let most = area 200 (omega arith) in
+full_height_is section s = entry-row_of (grid_height section.full) 200 (omega arith) ∙ grid_top section.full s.full_in
+
+pub slot_is : (section : Section) → SectionInRange section → slot_width (table_of section) ≡ quo_of section.full (pos 100)
+unfolding slot_width
+slot_is section s = ap (λ (z : ℤ). quo_of z (pos 100)) (full_height_is section s)
+
+pub table_is : (section : Section) → SectionInRange section → IsTable (table_of section)
+unfolding table_of
+table_is section s =
+    let last : entry (row_of (grid_height section.full)) 200 ≡ section.full = entry-row_of (grid_height section.full) 200 (omega arith) ∙ grid_top section.full s.full_in in
     record {
       heights = record {
-        full = subst (λ (z : ℤ). IsBetween (pos 1_000) z (pos (10 ^ 9))) (sym last) s.full;
-        each = λ i h. entry-row_of (grid_height section.full) i h ∙ ap (λ (z : ℤ). grid_height z i) (sym last);
+        full = subst IsFullHeight (sym last) s.full_in;
+        each = λ i h. entry-row_of (grid_height section.full) i h ∙ subst (λ (z : ℤ). grid_height section.full i ≡ grid_height z i) (sym last) refl;
       };
-      empty = area 0 (omega arith) ∙ area_none section;
-      areas = λ i h. rw (area i (omega (arith, h)), area (i + 1) (omega (arith, h))) (areas_rise r i);
-      most = rw most (area_most r);
-      widths = record { each = λ i h. subst (λ (z : ℤ). IsBetween (pos 0) z (pos (10 ^ 12))) (sym (entry-row_of (grid_width section) i h ∙ widths_are r i)) (record { from = omega (arith, ints); to = omega (arith, ints, r.wide) }) };
-      bottom = rw bottom (omega (arith, ints));
-      perimeters = record { each = λ i h. rw (bottom, entry-row_of (grid_perimeter section) i h) (perimeter_between r i h) };
-      barrels = s.barrels;
-      wet = rw (most, bottom) (area_wet r);
+      areas = record { each = λ i h. subst (λ (z : ℤ). IsBetween (pos 0) z (pos (10 ^ 18))) (sym (entry-row_of (grid_area section) i h)) (grid_area-between section i s h) };
+      widths = record { each = λ i h. subst (λ (z : ℤ). IsBetween (pos 0) z (pos (10 ^ 18))) (sym (entry-row_of (grid_width section) i h)) (between_up (grid_width-between section i s h) tt tt) };
+      perimeters = record { each = λ i h. subst (λ (z : ℤ). IsBetween (pos 0) z (pos (10 ^ 18))) (sym (entry-row_of (wetted_perimeter section) i h)) (wetted-between section i s h) };
+      wet = λ i h. rw (entry-row_of (grid_area section) i h, entry-row_of (wetted_perimeter section) i h) (wetted_wet section i s h);
+      barrels = s.barrels_in;
     }
+  where
+    wetted-between : (section : Section) (i : ℕ) → SectionInRange section → i ≤ 200 → IsBetween (pos 0) (wetted_perimeter section i) (pos (10 ^ 18))
+    wetted-between section i s h =
+        let more = wetted-above section i s h in
+        let sides = grid_perimeter-between section i s h in
+        record { from = omega (arith, ints, more.from, sides.from); to = more.to }
 
-pub full_height-table_of : (section : Section) → IsSection section → full_height (table_of section) ≡ section.full
+-- every area below a grid height of a section lies between 0 and the full area
+pub areas_are : (section : Section) → SectionInRange section → RowBetween (pos 0) (table_of section).areas (full_area (table_of section))
 unfolding table_of
-full_height-table_of section s =
-    let f = full_is s.full in
-    entry-row_of (grid_height section.full) 200 (omega arith) ∙ ap (λ (z : ℤ). grid_height z 200) f.1 ∙ grid_is f.0 200 ∙ ap pos (grid-last f.0) ∙ sym f.1
-
--- ---- rows that do not fall
-rises : (row : List ℤ) → ((i : ℕ) → i < 200 → entry row i ≤ℤ entry row (i + 1)) → (i k : ℕ) → i ≤ k → k ≤ 200 → entry row i ≤ℤ entry row k
-rises row each i zero low high = let same : i ≡ zero = omega (arith, low) in subst (λ (z : ℕ). entry row i ≤ℤ entry row z) same (omega (arith, ints))
-rises row each i (suc k) low high = elim (cases_lt i (suc k)) [
-  | inl less ↦
-      let below : entry row i ≤ℤ entry row k = rises row each i k (omega (arith, less)) (omega (arith, high)) in
-      let step : entry row k ≤ℤ entry row (k + 1) = each k (omega (arith, high)) in
-      let same : entry row (k + 1) ≡ entry row (suc k) = ap (entry row) (add-one k) in
-      omega (arith, ints)
-  | inr more ↦ let same : i ≡ suc k = omega (arith, low, more) in subst (λ (z : ℕ). entry row i ≤ℤ entry row z) same (omega (arith, ints))
-]
-
-pub areas_between : {table : SectionTable} → IsTable table → RowBetween (pos 0) table.areas (full_area table)
-areas_between {table = table} t = record {
-  each = λ i h. record {
-    from = subst (λ (z : ℤ). z ≤ℤ entry table.areas i) t.empty (rises table.areas t.areas 0 i (omega arith) h);
-    to = rises table.areas t.areas i 200 h (omega arith);
-  };
+areas_are section s = record {
+  each = λ i h. rw (entry-row_of (grid_area section) i h, entry-row_of (grid_area section) 200 (omega arith)) (grid_area-full section i s h);
 }
 
-pub grid_area-between : {table : SectionTable} → IsTable table → (i : ℕ) → i ≤ 200 → IsBetween (pos 0) (entry table.areas i) (pos (10 ^ 15))
-grid_area-between t i h =
-    let range = areas_between t in
-    let here = range.each i h in
-    let most = t.most in
-    record { from = here.from; to = omega (arith, ints, here.to) }
+-- ---- the slot
+pub slot-between : {table : SectionTable} → IsTable table → IsBetween (pos 0) (slot_width table) (pos (10 ^ 7))
+unfolding slot_width
+slot-between t = between_up (between_quo_by {y = pos 100} 100 t.heights.full (le_number tt) tt) tt tt
+
+pub above_full-between : {table : SectionTable} {y : ℤ} → IsTable table → IsFall y → full_height table ≤ℤ y → IsBetween (pos 0) (y -ℤ full_height table) (pos (4 * 10 ^ 10))
+above_full-between t d h = record { from = omega (arith, ints, h); to = omega (arith, ints, d.within, t.heights.full.from) }
+
+pub slot_area-between : {table : SectionTable} {y : ℤ} → IsTable table → IsFall y → full_height table ≤ℤ y → IsBetween (pos 0) (slot_area table y) (pos (4 * 10 ^ 11))
+unfolding slot_area
+slot_area-between t d h = between_up (between_quo_by {y = pos 1_000_000} 1_000_000 (between_mul (slot-between t) (above_full-between t d h)) (le_number tt) tt) tt tt
+
+pub in_slot : (closed : Bool) (full y : ℤ) → (closed && int_lt full y) ≡ true → full ≤ℤ y
+in_slot true full y h = omega (arith, ints, h)
+in_slot false full y h = let never : ⊥ = cc in absurd never
 
 -- ---- the range of each look-up
-pub area_between : {table : SectionTable} (y : ℤ) → IsTable table → IsBetween (pos 0) (area_of table y) (full_area table)
+-- an area is at most the greatest of the row and the slot's above the full one
+pub area_of-between : {table : SectionTable} {y m : ℤ} → IsTable table → RowBetween (pos 0) table.areas m → IsFall y → IsBetween (pos 0) (area_of table y) (m +ℤ pos (4 * 10 ^ 11))
 unfolding area_of
-area_between y t = row_at-between y t.heights (areas_between t)
+area_of-between {table} {y} {m} t rows d = by (is_in_slot table y) (in_slot table.closed (full_height table) y)
+  where
+    by : (test : Bool) → (test ≡ true → full_height table ≤ℤ y)
+        → IsBetween (pos 0) (cond test (full_area table +ℤ slot_area table y) (row_at table.heights table.areas y)) (m +ℤ pos (4 * 10 ^ 11))
+    by true e =
+        let full = rows.each 200 (omega arith) in
+        let slot = slot_area-between t d (e refl) in
+        record { from = omega (arith, ints, full.from, slot.from); to = omega (arith, ints, full.to, slot.to) }
+    by false e =
+        let row = row_at-between y t.heights rows in
+        record { from = row.from; to = omega (arith, ints, row.to) }
 
-pub area_small : {table : SectionTable} (y : ℤ) → IsTable table → IsBetween (pos 0) (area_of table y) (pos (10 ^ 15))
-area_small y t =
-    let area = area_between y t in
-    let most = t.most in
-    record { from = area.from; to = omega (arith, ints, area.to) }
+pub area_small : {table : SectionTable} {y : ℤ} → IsTable table → IsFall y → IsBetween (pos 0) (area_of table y) (pos (2 * 10 ^ 18))
+area_small t d = between_up (area_of-between t t.areas d) tt tt
 
-pub width_between : {table : SectionTable} (y : ℤ) → IsTable table → IsBetween (pos 0) (width_of table y) (pos (10 ^ 12))
+pub width_of-between : {table : SectionTable} (y : ℤ) → IsTable table → IsBetween (pos 0) (width_of table y) (pos (10 ^ 18))
 unfolding width_of
-width_between y t = row_at-between y t.heights t.widths
+width_of-between {table} y t = by (is_in_slot table y)
+  where
+    least : (closed : Bool) {slot width : ℤ} → IsBetween (pos 0) slot (pos (10 ^ 7)) → IsBetween (pos 0) width (pos (10 ^ 18)) → IsBetween (pos 0) (cond closed (int_max slot width) width) (pos (10 ^ 18))
+    least true s w = record { from = omega (arith, ints, clamps, s.from); to = omega (arith, ints, clamps, s.to, w.to) }
+    least false s w = w
 
-above_bottom : {table : SectionTable} (y : ℤ) → IsTable table → IsBetween (entry table.perimeters 0) (perimeter_of table y) (pos (10 ^ 13))
+    by : (test : Bool) → IsBetween (pos 0) (cond test (slot_width table) (least_width table (row_at table.heights table.widths y))) (pos (10 ^ 18))
+    by true = between_up (slot-between t) tt tt
+    by false = least table.closed (slot-between t) (row_at-between y t.heights t.widths)
+
+pub perimeter_of-between : {table : SectionTable} (y : ℤ) → IsTable table → IsBetween (pos 0) (perimeter_of table y) (pos (10 ^ 18))
 unfolding perimeter_of
-above_bottom y t = row_at-between y t.heights t.perimeters
+perimeter_of-between y t = row_at-between y t.heights t.perimeters
 
-pub perimeter_of-between : {table : SectionTable} (y : ℤ) → IsTable table → IsBetween (pos 0) (perimeter_of table y) (pos (10 ^ 13))
-perimeter_of-between y t = let above = above_bottom y t in let bottom = t.bottom in record { from = omega (arith, ints, above.from); to = above.to }
+-- ---- an area that is no more than the full one is at most that of thirty metres along the wetted perimeter
+row_wet : {table : SectionTable} (y : ℤ) → IsTable table → row_at table.heights table.areas y ≤ℤ (pos 30_000_000 *ℤ int_max (row_at table.heights table.perimeters y) (pos 1))
+unfolding row_at value_at
+row_wet {table} y t =
+    let s = strip_found t.heights (depth_within y t.heights) in
+    lerp_wet s.from s.to s.apart (t.areas.each _ (omega (arith, s.within))).from (t.areas.each _ (omega (arith, s.within))).from
+    (t.perimeters.each _ (omega (arith, s.within))).from (t.perimeters.each _ (omega (arith, s.within))).from
+    (row_at-between y t.heights t.areas).from (row_at-between y t.heights t.perimeters).from
+    (t.wet _ (omega (arith, s.within))) (t.wet _ (omega (arith, s.within)))
 
--- an area is at most that of a strip of a metre's width along the wetted perimeter
-pub area-wet : {table : SectionTable} (y : ℤ) → IsTable table → area_of table y ≤ℤ (pos 1_000 *ℤ perimeter_of table y)
-area-wet y t =
-    let area = area_between y t in
-    let above = above_bottom y t in
-    let wet = t.wet in
-    omega (arith, ints, area.to, above.from)
+pub area_wet : {table : SectionTable} (y : ℤ) → IsTable table → int_min (area_of table y) (full_area table) ≤ℤ (pos 30_000_000 *ℤ int_max (perimeter_of table y) (pos 1))
+unfolding area_of perimeter_of
+area_wet {table} y t = by (is_in_slot table y) (in_slot table.closed (full_height table) y)
+  where
+    wet : row_at table.heights table.areas y ≤ℤ (pos 30_000_000 *ℤ int_max (row_at table.heights table.perimeters y) (pos 1))
+    wet = row_wet y t
+
+    by : (test : Bool) → (test ≡ true → full_height table ≤ℤ y)
+        → int_min (cond test (full_area table +ℤ slot_area table y) (row_at table.heights table.areas y)) (full_area table) ≤ℤ (pos 30_000_000 *ℤ int_max (row_at table.heights table.perimeters y) (pos 1))
+    by true e = let top = row_at-top table.areas t.heights (e refl) in omega (arith, ints, clamps, wet, top)
+    by false e = omega (arith, ints, clamps, wet)

@@ -17,7 +17,8 @@ celerity_of area width = root2_of (GRAVITY *ℤ quo_of (area *ℤ pos 1_000_000)
 unfoldable pub slope_of : (drop length : ℤ) → ℤ
 slope_of drop length = root2_of (quo_of (int_max drop (pos 305) *ℤ pos 1_000_000_000_000) length)
 
--- the speed of uniform flow by Manning's formula, in µm/s; the two thirds power of the radius is the cube root of its square
+-- the speed of uniform flow by Manning's formula, in µm/s; the two thirds power of the radius is the cube root of its
+-- square
 unfoldable pub speed_of : (radius slope6 n6 : ℤ) → ℤ
 speed_of radius slope6 n6 = quo_of (root3_of (radius *ℤ radius *ℤ pos 1_000_000_000) *ℤ slope6) (pos 10 *ℤ n6)
 
@@ -41,9 +42,11 @@ least_height table passes = entry table.heights (first_that passes 200)
 unfoldable pub is_subcritical : SectionTable → (q : ℤ) → ℕ → Bool
 is_subcritical table q i =
     let area = entry table.areas i in
-    nat_lt 0 i && int_lt (pos 0) area && int_le (quo_of (q *ℤ pos 1_000_000) area) (celerity_of area (width_of table (entry table.heights i)))
+    let speed = quo_of (q *ℤ pos 1_000_000) area in
+    nat_lt 0 i && int_lt (pos 0) area && int_le speed (celerity_of area (width_of table (entry table.heights i)))
 
--- the critical depth of a flow: 0 for no flow, else the least grid height at which it is subcritical, else the full height
+-- the critical depth of a flow: 0 for no flow, else the least grid height at which it is subcritical, else the full
+-- height
 unfoldable pub critical_of : SectionTable → ℤ → ℤ
 critical_of table q = if int_le q (pos 0) then pos 0 else least_height table (is_subcritical table q)
 
@@ -51,6 +54,8 @@ critical_of table q = if int_le q (pos 0) then pos 0 else least_height table (is
 unfoldable pub is_carried : SectionTable → (q n6 slope6 : ℤ) → ℕ → Bool
 is_carried table q n6 slope6 i = int_le q (uniform_of table (entry table.heights i) n6 slope6)
 
--- the normal depth of a flow: 0 for no flow, else the least grid height at which uniform flow carries it, else the full height
+-- the normal depth of a flow: 0 for no flow, else the least grid height at which uniform flow carries it, else the
+-- full height
 unfoldable pub normal_of : SectionTable → (q n6 drop length : ℤ) → ℤ
-normal_of table q n6 drop length = if int_le q (pos 0) then pos 0 else least_height table (is_carried table q n6 (slope_of drop length))
+normal_of table q n6 drop length =
+    if int_le q (pos 0) then pos 0 else least_height table (is_carried table q n6 (slope_of drop length))

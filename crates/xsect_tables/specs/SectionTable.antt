@@ -1,11 +1,13 @@
 -- The table of a cross-section: 201 grid heights, and what lies below each (this project's profile).
-use Rattle.std.specs.Prelude.{◌≡◌, ℕ, ◌+◌, ◌^◌, ◌<◌, ◌≤◌, Bool, List, map, slice_index_or, ℤ, pos, ◌+ℤ◌, ◌-ℤ◌, ◌*ℤ◌, ◌≤ℤ◌}
+use Rattle.std.specs.Prelude.{◌≡◌, ℕ, ◌+◌, ◌^◌, ◌≤◌, ◌==◌, Bool, if◌then◌else◌, List, map, slice_index_or, ℤ, pos, ◌+ℤ◌}
+use Rattle.std.specs.Prelude.{◌-ℤ◌, ◌*ℤ◌, ◌≤ℤ◌}
+use Rattle.std.specs.Int.{int_max}
 use Rattle.std.specs.List.{range_with_len}
 use Rattle.fixed_num.specs.Ranges.{IsBetween, IsFullHeight, AreBarrels}
 use Rattle.fixed_num.specs.Roots.{root2_of}
 use Rattle.fixed_num.specs.Rounding.{quo_of}
 use Rattle.net_types.specs.declared.network.Section.{Section}
-use Rattle.xsect_tables.specs.Sections.{width_at, is_closed}
+use Rattle.xsect_tables.specs.Sections.{width_at, is_closed, top_width}
 use Rattle.fixed_num.specs.Sums.{sum_below}
 
 -- four rows of 201 numbers: grid heights (µm), areas below them (mm²), widths at them and wetted perimeters
@@ -60,13 +62,18 @@ grid_area section i = quo_of (sum_below (strip_area section) i) (pos 1_000_000)
 unfoldable pub grid_perimeter : Section → ℕ → ℤ
 grid_perimeter section i = grid_width section 0 +ℤ sum_below (strip_sides section) i
 
--- the table of an open section
+-- the wetted perimeter at grid height i: at the full height a flat top is wetted too
+unfoldable pub wetted_perimeter : Section → ℕ → ℤ
+wetted_perimeter section i =
+    if i == 200 then grid_perimeter section 200 +ℤ top_width section.shape else grid_perimeter section i
+
+-- the table of a section
 unfoldable pub table_of : Section → SectionTable
 table_of section = record {
   heights = row_of (grid_height section.full);
   areas = row_of (grid_area section);
   widths = row_of (grid_width section);
-  perimeters = row_of (grid_perimeter section);
+  perimeters = row_of (wetted_perimeter section);
   barrels = section.barrels;
   closed = is_closed section.shape;
 }
@@ -87,15 +94,12 @@ pub record IsGrid (heights : List ℤ) : Type 0 where
 pub record RowBetween (a : ℤ) (row : List ℤ) (b : ℤ) : Type 0 where
   pub each : (i : ℕ) → i ≤ 200 → IsBetween a (entry row i) b
 
--- what holds of every table: areas begin at 0 and do not fall; widths are at most 10^12 µm, perimeters at most 10^13 µm; the
--- full area is at most that of a strip of a metre's width along the shortest perimeter; the barrels are 1 to 100
+-- what holds of every table: no number is negative, none is above 10^18, and an area is at most that of a strip ten
+-- metres wide along the wetted perimeter, which counts as at least 1 µm; the barrels are 1 to 100
 pub record IsTable (table : SectionTable) : Type 0 where
   pub heights : IsGrid table.heights
-  pub empty : entry table.areas 0 ≡ pos 0
-  pub areas : (i : ℕ) → i < 200 → entry table.areas i ≤ℤ entry table.areas (i + 1)
-  pub most : full_area table ≤ℤ pos (10 ^ 15)
-  pub widths : RowBetween (pos 0) table.widths (pos (10 ^ 12))
-  pub bottom : pos 0 ≤ℤ entry table.perimeters 0
-  pub perimeters : RowBetween (entry table.perimeters 0) table.perimeters (pos (10 ^ 13))
+  pub areas : RowBetween (pos 0) table.areas (pos (10 ^ 18))
+  pub widths : RowBetween (pos 0) table.widths (pos (10 ^ 18))
+  pub perimeters : RowBetween (pos 0) table.perimeters (pos (10 ^ 18))
+  pub wet : (i : ℕ) → i ≤ 200 → entry table.areas i ≤ℤ (pos 10_000_000 *ℤ int_max (entry table.perimeters i) (pos 1))
   pub barrels : AreBarrels table.barrels
-  pub wet : full_area table ≤ℤ (pos 1_000 *ℤ entry table.perimeters 0)

@@ -1,33 +1,10 @@
--- Cross-sections: their ranges, and their width at a depth (User's Manual, section [XSECTIONS]).
-use Rattle.std.specs.Prelude.{◌^◌, ⊤, Bool, true, false, ℤ, pos, ◌+ℤ◌, ◌-ℤ◌, ◌*ℤ◌}
-use Rattle.fixed_num.specs.Ranges.{IsFullHeight, IsWidth, AreBarrels, IsCoefficient}
+-- Cross-sections: their width at a depth (User's Manual, section [XSECTIONS]).
+use Rattle.std.specs.Prelude.{Bool, true, false, ℤ, pos, ◌+ℤ◌, ◌-ℤ◌, ◌*ℤ◌}
 use Rattle.fixed_num.specs.Roots.{root2_of}
 use Rattle.fixed_num.specs.Rounding.{quo_of}
 use Rattle.net_types.specs.declared.network.Section.{Section}
 use Rattle.net_types.specs.declared.network.Shape.{Shape}
 use Rattle.net_types.specs.declared.network.Shape.TheVariants.{RectOpen, RectClosed, Trapezoidal, Triangular, Circular}
-
--- widths are 0 to 10^10 µm, side slopes 0 to 10^8 millionths
-abbrev pub HasSizes : Shape → Type 0
-HasSizes (RectOpen width) = IsWidth width
-HasSizes (RectClosed width) = IsWidth width
-HasSizes (Trapezoidal bottom left6 right6) = IsWidth bottom × IsCoefficient left6 × IsCoefficient right6
-HasSizes (Triangular top) = IsWidth top
-HasSizes Circular = ⊤
-
--- a section as it is read: its full height is 1,000 to 10^9 µm, its barrels are 1 to 100
-pub record IsSection (section : Section) : Type 0 where
-  pub full : IsFullHeight section.full
-  pub barrels : AreBarrels section.barrels
-  pub sizes : HasSizes section.shape
-
--- a rectangular open section, the shape whose table can be built
-abbrev pub IsRectOpen : Shape → Type 0
-IsRectOpen (RectOpen width) = ⊤
-IsRectOpen (RectClosed width) = ⊥
-IsRectOpen (Trapezoidal bottom left6 right6) = ⊥
-IsRectOpen (Triangular top) = ⊥
-IsRectOpen Circular = ⊥
 
 -- the width of a shape of the full height at a depth y
 abbrev pub shape_width : Shape → (full y : ℤ) → ℤ
@@ -48,3 +25,11 @@ is_closed (RectClosed width) = true
 is_closed (Trapezoidal bottom left6 right6) = false
 is_closed (Triangular top) = false
 is_closed Circular = true
+
+-- the flat top of a closed shape, which a full section wets too
+abbrev pub top_width : Shape → ℤ
+top_width (RectOpen width) = pos 0
+top_width (RectClosed width) = width
+top_width (Trapezoidal bottom left6 right6) = pos 0
+top_width (Triangular top) = pos 0
+top_width Circular = pos 0

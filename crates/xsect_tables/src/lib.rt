@@ -1,12 +1,12 @@
-//! The table of a cross-section: 201 grid heights, and the area and the wetted perimeter below each and the width at it.
+//! The table of a cross-section: 201 grid heights, and the area and the wetted perimeter below each and the width at
+//! it.
 //!
-//! `Table::build` makes the table of a section; its contract says that the table is `table_of` the section, whose rows are
-//! sums over the strips below each grid height (`specs/SectionTable.antt`). Between grid heights a row is read on the
-//! straight line (`specs/LookUps.antt`). `celerity`, `normal_flow`, and the critical and the normal depth of a flow are in
-//! `specs/NormalFlow.antt`. A contract sees a `Table` as its four rows, its barrels and whether it is closed; what holds of
-//! every table is `IsTable`.
-//!
-//! The shape whose table can be built so far is the rectangular open one.
+//! `Table::build` makes the table of a section; its contract says that the table is `table_of` the section, whose
+//! rows are sums over the strips below each grid height (`specs/SectionTable.antt`). Between grid heights a row is
+//! read on the straight line, and above its top a closed section goes on as a narrow slot (`specs/LookUps.antt`).
+//! `celerity`, `normal_flow`, and the critical and the normal depth of a flow are in `specs/NormalFlow.antt`. A
+//! contract sees a `Table` as its four rows, its barrels and whether it is closed; what holds of every table is
+//! `IsTable`.
 #![tactic(auto, using(fixed_num::proofs::Bounds::casts))]
 
 mod flow;
@@ -16,5 +16,5 @@ mod table;
 #[cfg(test)]
 mod tests;
 
-pub use flow::celerity;
+pub use flow::{EndSection, FlowSection, celerity};
 pub use table::Table;

@@ -3,18 +3,37 @@ ghost use Rattle.std.specs.Prelude.{◌≡◌, ℕ, ◌+◌, ◌*◌, ◌/◌, �
 ghost use Rattle.std.specs.Int.RustNames.{unsigned_abs};
 ghost use Rattle.fixed_num.specs.Ranges.{IsBetween, IsFullHeight};
 ghost use Rattle.xsect_tables.specs.SectionTable.{entry, IsGrid};
-ghost use Rattle.xsect_tables.specs.LookUps.{row_at as row_value, strip_at as strip_of};
+ghost use Rattle.xsect_tables.specs.LookUps.{IsPlace, IsStrip, value_at as value_of, strip_at as strip_of};
 
 use fixed_num::{cut, lerp};
 
-// A row at a depth.
-pub(crate) fn row_at(heights: &[i64; 201], row: &[i64; 201], y: i64) -> i64
+// Where a depth lies: the depth itself, brought into 0 to the full height, and the strip around it.
+#[derive(Clone, Copy, Debug)]
+pub(crate) struct Place {
+    pub(crate) depth: i64,
+    pub(crate) strip: usize,
+}
+
+// The place of a depth.
+pub(crate) fn place_of(heights: &[i64; 201], y: i64) -> Place
     requires { IsGrid heights.now }
-    ensures { result ≡ row_value heights.now row.now y }
+    ensures { IsPlace heights.now y result }
 {
     let depth = cut(y as i128, 0, heights[200] as i128) as i64;
-    let i = strip_at(heights, depth);
-    lerp(heights[i], row[i], heights[i + 1], row[i + 1], depth)
+    Place {
+        depth,
+        strip: strip_at(heights, depth),
+    }
+}
+
+// A row at the depth of a place.
+pub(crate) fn value_at(heights: &[i64; 201], row: &[i64; 201], place: &Place) -> i64
+    requires grid { IsGrid heights.now }
+    requires around { IsStrip heights.now place.now.depth place.now.strip }
+    ensures { result ≡ value_of heights.now row.now place.now.depth place.now.strip }
+{
+    let i = place.strip;
+    lerp(heights[i], row[i], heights[i + 1], row[i + 1], place.depth)
 }
 
 // The strip in which a depth lies: the one in whose part of the full height it lies, or the next one where the grid

@@ -1,8 +1,12 @@
 // The rows of a table, each from the section.
 ghost use Rattle.std.specs.Prelude.{◌≡◌, ℕ, ◌+◌, ◌*◌, ◌^◌, ◌<◌, ◌≤◌, ℤ, pos};
-ghost use Rattle.fixed_num.specs.Ranges.{IsWithin, IsBetween, IsFullHeight};
-ghost use Rattle.xsect_tables.specs.Sections.{IsSection, IsRectOpen, width_at as section_width};
-ghost use Rattle.xsect_tables.specs.SectionTable.{row_of, grid_height as height_of_grid, grid_width as width_of_grid, grid_area, grid_perimeter, strip_area as area_of_strip, strip_sides as sides_of_strip, sides_of};
+ghost use Rattle.fixed_num.specs.Ranges.{IsWithin, IsBetween, IsFullHeight, IsWidth, IsCoefficient};
+ghost use Rattle.net_types.specs.Ranges.{SectionInRange};
+ghost use Rattle.xsect_tables.specs.Sections.{shape_width, top_width as width_of_top, width_at as section_width};
+ghost use Rattle.xsect_tables.specs.SectionTable.{row_of, grid_height as height_of_grid, grid_width as width_of_grid};
+ghost use Rattle.xsect_tables.specs.SectionTable.{grid_area};
+ghost use Rattle.xsect_tables.specs.SectionTable.{grid_perimeter, wetted_perimeter, strip_area as area_of_strip};
+ghost use Rattle.xsect_tables.specs.SectionTable.{strip_sides as sides_of_strip, sides_of};
 
 use fixed_num::{quo, root2};
 use net_types::{Section, Shape};
@@ -13,30 +17,71 @@ fn grid_height(full: i64, i: usize) -> i64
     requires place { i ≤ 200 }
     ensures value { result ≡ height_of_grid full i }
     ensures range { IsBetween (pos 0) result (pos (10 ^ 9)) }
+    ensures within { IsBetween (pos 0) result full }
 {
     quo(i as i128 * full as i128, 200) as i64
 }
 
 // The width of a section at a depth, in µm.
-fn width_at(section: &Section, _y: i64) -> i64
-    requires range { IsSection section.now }
-    requires shape { IsRectOpen section.now.shape }
-    ensures value { result ≡ section_width section.now _y }
+fn width_at(section: &Section, y: i64) -> i64
+    requires range { SectionInRange section.now }
+    requires depth { IsBetween (pos 0) y section.now.full }
+    ensures value { result ≡ section_width section.now y }
+    ensures range { IsBetween (pos 0) result (pos (3 * 10 ^ 11)) }
+{
+    match section.shape {
+        Shape::RectOpen { width } => width,
+        Shape::RectClosed { width } => width,
+        Shape::Trapezoidal {
+            bottom,
+            left6,
+            right6,
+        } => trapezoid_width(bottom, left6, right6, y),
+        Shape::Triangular { top } => triangle_width(top, section.full, y),
+        Shape::Circular => circle_width(section.full, y),
+    }
+}
+
+// The width of a trapezoid at a depth: of its bottom, and of its two side slopes up to there.
+fn trapezoid_width(bottom: i64, left6: i64, right6: i64, y: i64) -> i64
+    requires bottom { IsWidth bottom }
+    requires left { IsCoefficient left6 }
+    requires right { IsCoefficient right6 }
+    requires depth { IsBetween (pos 0) y (pos (10 ^ 9)) }
+    ensures value { result ≡ shape_width (Shape.Trapezoidal bottom left6 right6) y y }
+    ensures range { IsBetween (pos 0) result (pos (3 * 10 ^ 11)) }
+{
+    let spread = quo((left6 as i128 + right6 as i128) * y as i128, 1_000_000);
+    (bottom as i128 + spread) as i64
+}
+
+// The width of a triangle at a depth: the part of its top that the depth is of the full height.
+fn triangle_width(top: i64, full: i64, y: i64) -> i64
+    requires top { IsWidth top }
+    requires full { IsFullHeight full }
+    requires depth { IsBetween (pos 0) y full }
+    ensures value { result ≡ shape_width (Shape.Triangular top) full y }
     ensures range { IsBetween (pos 0) result (pos (10 ^ 10)) }
 {
-    let Shape::RectOpen { width } = section.shape else {
-        unreachable!()
-    };
-    width
+    quo(top as i128 * y as i128, full as i128) as i64
+}
+
+// The width of a circle at a depth: twice the mean proportional of the heights below and above it.
+fn circle_width(full: i64, y: i64) -> i64
+    requires full { IsFullHeight full }
+    requires depth { IsBetween (pos 0) y full }
+    ensures value { result ≡ shape_width Shape.Circular full y }
+    ensures range { IsBetween (pos 0) result (pos (2 * 10 ^ 9)) }
+{
+    (2 * root2(y as i128 * (full - y) as i128)) as i64
 }
 
 // The area of the strip between grid heights `i` and `i + 1`, in µm².
 fn strip_area(section: &Section, i: usize) -> i128
-    requires range { IsSection section.now }
-    requires shape { IsRectOpen section.now.shape }
+    requires range { SectionInRange section.now }
     requires place { i < 200 }
     ensures value { result ≡ area_of_strip section.now i }
-    ensures range { IsBetween (pos 0) result (pos (10 ^ 19)) }
+    ensures range { IsBetween (pos 0) result (pos (3 * 10 ^ 20)) }
 {
     let low = grid_height(section.full, i);
     let high = grid_height(section.full, i + 1);
@@ -46,11 +91,10 @@ fn strip_area(section: &Section, i: usize) -> i128
 
 // The length of the two sides of that strip, in µm.
 fn strip_sides(section: &Section, i: usize) -> i64
-    requires range { IsSection section.now }
-    requires shape { IsRectOpen section.now.shape }
+    requires range { SectionInRange section.now }
     requires place { i < 200 }
     ensures value { result ≡ sides_of_strip section.now i }
-    ensures range { IsBetween (pos 0) result (pos (3 * 10 ^ 10)) }
+    ensures range { IsBetween (pos 0) result (pos (10 ^ 12)) }
 {
     let low = grid_height(section.full, i);
     let high = grid_height(section.full, i + 1);
@@ -62,9 +106,9 @@ fn strip_sides(section: &Section, i: usize) -> i64
 // The length of two sides that rise and spread so far together, in µm.
 fn sides(rise: i64, spread: i64) -> i64
     requires rise { IsWithin (2 * 10 ^ 9) rise }
-    requires spread { IsWithin (2 * 10 ^ 10) spread }
+    requires spread { IsWithin (6 * 10 ^ 11) spread }
     ensures value { result ≡ sides_of rise spread }
-    ensures range { IsBetween (pos 0) result (pos (3 * 10 ^ 10)) }
+    ensures range { IsBetween (pos 0) result (pos (10 ^ 12)) }
 {
     root2(4 * (rise as i128 * rise as i128) + spread as i128 * spread as i128) as i64
 }
@@ -83,8 +127,7 @@ pub(crate) fn heights(full: i64) -> [i64; 201]
 
 // The widths at the grid heights.
 pub(crate) fn widths(section: &Section) -> [i64; 201]
-    requires range { IsSection section.now }
-    requires shape { IsRectOpen section.now.shape }
+    requires { SectionInRange section.now }
     ensures { result ≡ row_of (width_of_grid section.now) }
 {
     let mut row = [0; 201];
@@ -96,8 +139,7 @@ pub(crate) fn widths(section: &Section) -> [i64; 201]
 
 // The areas below the grid heights, strip after strip.
 pub(crate) fn areas(section: &Section) -> [i64; 201]
-    requires range { IsSection section.now }
-    requires shape { IsRectOpen section.now.shape }
+    requires { SectionInRange section.now }
     ensures { result ≡ row_of (grid_area section.now) }
 {
     let mut row = [0; 201];
@@ -109,10 +151,29 @@ pub(crate) fn areas(section: &Section) -> [i64; 201]
     row
 }
 
-// The wetted perimeters below the grid heights, strip after strip.
+// The wetted perimeters at the grid heights; a flat top is wetted at the full height.
 pub(crate) fn perimeters(section: &Section) -> [i64; 201]
-    requires range { IsSection section.now }
-    requires shape { IsRectOpen section.now.shape }
+    requires { SectionInRange section.now }
+    ensures { result ≡ row_of (wetted_perimeter section.now) }
+{
+    let mut row = side_perimeters(section);
+    row[200] += top_width(&section.shape);
+    row
+}
+
+// The width of the flat top of a closed shape, in µm.
+fn top_width(shape: &Shape) -> i64
+    ensures { result ≡ width_of_top shape.now }
+{
+    match shape {
+        Shape::RectClosed { width } => *width,
+        _ => 0,
+    }
+}
+
+// The lengths of bottom and sides below the grid heights, strip after strip.
+fn side_perimeters(section: &Section) -> [i64; 201]
+    requires { SectionInRange section.now }
     ensures { result ≡ row_of (grid_perimeter section.now) }
 {
     let mut row = [0; 201];

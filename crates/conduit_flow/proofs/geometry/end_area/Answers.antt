@@ -14,7 +14,7 @@ half c =
     let product = within_mul both (within_between c.requires.length) in
     simp (to_z-of_z, c.ranges.width, fits_wider _ c.ranges.width, c.ranges.middle_width, fits_wider _ c.ranges.middle_width, c.ranges.length, fits_wider _ c.ranges.length, fits128 both tt, fits128 product tt) at c.quo-one.ensures.value
 
-small : (c : After-quo-one) → IsBetween (pos 0) c.quo-one.result (pos (10 ^ 17))
+small : (c : After-quo-one) → IsBetween (pos 0) c.quo-one.result (pos (10 ^ 23))
 small c = rw (half c) (half-between c.requires.width c.requires.middle c.requires.length)
 
 pub overflow_mul-barrels : goal.overflow_mul-barrels
@@ -22,7 +22,7 @@ overflow_mul-barrels c =
     let one = within_between (small c) in
     simp (to_z-of_z, c.ranges.barrels, fits_wider _ c.ranges.barrels, fits128 one tt) (fits128 (within_mul (within_between c.requires.barrels) one) tt)
 
-value : (c : After-min) → c.quo-one.result ≡ quo_of ((c.args.width +ℤ c.args.middle_width) *ℤ c.args.length) (pos 4_000_000) → IsBetween (pos 0) c.quo-one.result (pos (10 ^ 17)) → c.min.result ≡ end_area_of c.args.width c.args.middle_width c.args.length c.args.barrels
+value : (c : After-min) → c.quo-one.result ≡ quo_of ((c.args.width +ℤ c.args.middle_width) *ℤ c.args.length) (pos 4_000_000) → IsBetween (pos 0) c.quo-one.result (pos (10 ^ 23)) → c.min.result ≡ end_area_of c.args.width c.args.middle_width c.args.length c.args.barrels
 unfolding end_area_of
 value c e s =
     let one = within_between s in

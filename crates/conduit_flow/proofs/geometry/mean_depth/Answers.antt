@@ -1,8 +1,9 @@
 use Rattle.std.proofs.Common.{◌≡◌, ◌*◌, ◌^◌, pos}
 use Rattle.std.proofs.lemmas.Int.{to_z-of_z}
-use Rattle.fixed_num.specs.Ranges.{IsWithin}
+use Rattle.fixed_num.specs.Ranges.{IsWaterDepth, IsWithin}
 use Rattle.fixed_num.proofs.Bounds.{within_add, within_between, within_quo, fits64, fits128}
 use Rattle.conduit_flow.specs.Geometry.{mean_depth_of}
+use Rattle.conduit_flow.proofs.RangeLemmas.{mean-between}
 use Rattle.conduit_flow.proofs.geometry.mean_depth.Goals as goal
 use Rattle.conduit_flow.proofs.geometry.mean_depth.Goals.{After-quo}
 
@@ -23,5 +24,15 @@ small c =
     let q = simp (to_z-of_z, fits64 a tt, fits128 a tt, fits64 b tt, fits128 b tt, fits128 (within_add a b) tt) at c.quo.ensures.value in
     rw q (within_quo (pos 2) (within_add a b))
 
-pub returns : goal.returns
-returns c = record { value = simp (to_z-of_z, fits128 (small c) tt, fits64 (small c) tt) (value c) }
+between : (c : After-quo) → IsWaterDepth c.quo.result
+between c =
+    let a = within_between c.depth-depth1.ensures.range in
+    let b = within_between c.depth-depth2.ensures.range in
+    let q = simp (to_z-of_z, fits64 a tt, fits128 a tt, fits64 b tt, fits128 b tt, fits128 (within_add a b) tt) at c.quo.ensures.value in
+    rw q (mean-between c.depth-depth1.ensures.range c.depth-depth2.ensures.range)
+
+pub returns-clause-value : goal.returns-clause-value
+returns-clause-value c = simp (to_z-of_z, fits128 (small c) tt, fits64 (small c) tt) (value c)
+
+pub returns-clause-range : goal.returns-clause-range
+returns-clause-range c = simp (to_z-of_z, fits128 (small c) tt, fits64 (small c) tt) (between c)

@@ -20,25 +20,23 @@ unfolding limited_at
 returns-in-Froude c =
     let depth = fits64 (within_between c.requires.ends.depth1) tt in
     let full = fits64 (within_between c.full_height.ensures.range) tt in
-    let area = fits64 (within_between c.area.ensures.small) tt in
+    let area = fits64 (within_between c.requires.ends.area1) tt in
     let width = fits64 (within_between c.requires.ends.width1) tt in
     let some = sym (simp (to_z-of_z, c.ranges.q) at c.runs_down.ensures) ∙ c.if-not-runs_down.false in
     let under = above c.full_height.result c.args.ends.now.depth1 (simp (to_z-of_z, depth, full) at c.if-ends-full_height.false) in
     let low = ap (λ (z : ℤ). int_lt c.args.ends.now.depth1 z) (sym c.full_height.ensures.value) ∙ under in
-    let a = simp (to_z-of_z, depth) at c.area.ensures.value in
     let f = simp (to_z-of_z, c.ranges.q, area, width) at c.is_fast.ensures in
-    by_froude _ some low c.in-Froude.is (cc (a, f))
+    by_froude _ some low c.in-Froude.is f
 
 pub returns-else-is_flatter : goal.returns-else-is_flatter
 unfolding limited_at
 returns-else-is_flatter c =
     let depth = fits64 (within_between c.requires.ends.depth1) tt in
     let full = fits64 (within_between c.full_height.ensures.range) tt in
-    let area = fits64 (within_between c.area-in-Both.ensures.small) tt in
+    let area = fits64 (within_between c.requires.ends.area1) tt in
     let width = fits64 (within_between c.requires.ends.width1) tt in
     let some = sym (simp (to_z-of_z, c.ranges.q) at c.runs_down.ensures) ∙ c.if-not-runs_down.false in
     let under = above c.full_height.result c.args.ends.now.depth1 (simp (to_z-of_z, depth, full) at c.if-ends-full_height.false) in
     let low = ap (λ (z : ℤ). int_lt c.args.ends.now.depth1 z) (sym c.full_height.ensures.value) ∙ under in
-    let a = simp (to_z-of_z, depth) at c.area-in-Both.ensures.value in
     let f = simp (to_z-of_z, c.ranges.q, area, width) at c.is_fast-in-Both.ensures in
-    by_both some low c.in-Both.is (sym c.is_flatter-in-Both.ensures ∙ c.if-is_flatter.false) (cc (a, f))
+    by_both some low c.in-Both.is (sym c.is_flatter-in-Both.ensures ∙ c.if-is_flatter.false) f

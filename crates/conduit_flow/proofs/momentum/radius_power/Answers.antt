@@ -1,7 +1,7 @@
 use Rattle.std.proofs.Common.{◌≡◌, ◌^◌, ℤ, pos, ◌*ℤ◌, ap}
 use Rattle.std.proofs.lemmas.Int.{to_z-of_z}
 use Rattle.fixed_num.specs.Ranges.{IsBetween}
-use Rattle.fixed_num.proofs.Bounds.{between_mul, within_mul, within_number, within_between, fits128, fits_wider}
+use Rattle.fixed_num.proofs.Bounds.{between_mul, between_up, within_mul, within_number, within_between, fits128, fits_wider}
 use Rattle.fixed_num.specs.Roots.{root3_of}
 use Rattle.conduit_flow.specs.Momentum.{radius_power_of}
 use Rattle.conduit_flow.proofs.RangeLemmas.{root-between}
@@ -13,7 +13,7 @@ root c =
     let cube = within_mul (within_between c.requires.radius) (within_number 1_000_000_000) in
     simp (to_z-of_z, c.ranges.radius, fits_wider _ c.ranges.radius, fits128 cube tt) at c.root3.ensures.value
 
-small : (c : After-root3) → IsBetween (pos 1) c.root3.result (pos (10 ^ 6))
+small : (c : After-root3) → IsBetween (pos 1) c.root3.result (pos (10 ^ 8))
 small c = rw (root c) (root-between c.requires.radius)
 
 value : (c : After-root3) → c.args.radius *ℤ c.root3.result ≡ radius_power_of c.args.radius
@@ -28,4 +28,9 @@ returns-clause-value c =
 pub returns-clause-range : goal.returns-clause-range
 returns-clause-range c =
     let r = within_between (small c) in
-    simp (to_z-of_z, c.ranges.radius, fits_wider _ c.ranges.radius, fits128 r tt, fits128 (within_mul (within_between c.requires.radius) r) tt) (between_mul c.requires.radius (small c))
+    simp (to_z-of_z, c.ranges.radius, fits_wider _ c.ranges.radius, fits128 r tt, fits128 (within_mul (within_between c.requires.radius) r) tt) (between_up (between_mul c.requires.radius (small c)) tt tt)
+
+pub overflow_mul-result : goal.overflow_mul-result
+overflow_mul-result c =
+    let r = within_between (small c) in
+    simp (to_z-of_z, c.ranges.radius, fits_wider _ c.ranges.radius, fits128 r tt) (fits128 (within_mul (within_between c.requires.radius) r) tt)

@@ -20,3 +20,24 @@ returns-clause-value c =
     let whole = rw (sym n) at c.barrel_flow-one.ensures.whole in
     simp (to_z-of_z, barrels, fits64 c.barrel_flow-one.ensures.range tt, fits64 whole tt, fits64 (within_between c.end_area.ensures.range) tt, fits64 (within_between c.end_area-2.ensures.range) tt, fits64 (within_between c.travel_time.ensures.range) tt)
     (cc (n, o, l, f, a, b, t))
+
+pub overflow_mul-result : goal.overflow_mul-result
+overflow_mul-result c =
+    let barrels = fits64 (within_between c.barrels-barrels.ensures.range) tt in
+    let whole = rw (sym c.barrels-barrels.ensures.value) at c.barrel_flow-one.ensures.whole in
+    simp (to_z-of_z, barrels, fits64 c.barrel_flow-one.ensures.range tt) (fits64 whole tt)
+
+pub returns-clause-range : goal.returns-clause-range
+returns-clause-range c =
+    let barrels = fits64 (within_between c.barrels-barrels.ensures.range) tt in
+    let whole = rw (sym c.barrels-barrels.ensures.value) at c.barrel_flow-one.ensures.whole in
+    simp (
+      to_z-of_z,
+      barrels,
+      fits64 c.barrel_flow-one.ensures.range tt,
+      fits64 whole tt,
+      fits64 (within_between c.end_area.ensures.range) tt,
+      fits64 (within_between c.end_area-2.ensures.range) tt,
+      fits64 (within_between c.travel_time.ensures.range) tt,
+    )
+    (record { flow = whole; area1 = c.end_area.ensures.range; area2 = c.end_area-2.ensures.range; time = c.travel_time.ensures.range })

@@ -1,25 +1,42 @@
-use Rattle.std.proofs.Common.{FitsSigned, rules}
-use Rattle.std.specs.Int.{w64}
-use Rattle.std.proofs.lemmas.Int.{to_z-of_z}
-use Rattle.infiltration.specs.Infiltration.{opening_of}
+use Rattle.std.proofs.Common.{sym, ◌∙◌}
+use Rattle.infiltration.specs.Infiltration.{method_of, opening_by}
+use Rattle.infiltration.proofs.MethodLemmas.{number_in_range}
+use Rattle.infiltration.proofs.StateLaws.{opened_horton, opened_number}
 use Rattle.infiltration.proofs.infiltration.opening_state.Goals as goal
 
-pub returns-in-Horton : goal.returns-in-Horton
-unfolding opening_of
-returns-in-Horton c =
-    let max : FitsSigned w64 c.in-Horton.max = search rules in
-    let min : FitsSigned w64 c.in-Horton.min = search rules in
-    let decay : FitsSigned w64 c.in-Horton.decay6 = search rules in
-    let dry : FitsSigned w64 c.in-Horton.dry = search rules in
-    let volume : FitsSigned w64 c.in-Horton.volume = search rules in
-    let s = c.horton_in.ensures in
-    let e = simp (to_z-of_z, max, min, decay, dry, volume) at c.opening.ensures in
-    rw (c.in-Horton.is, ← s, e)
+pub opening-requires-in-Number-clause-number : goal.opening-requires-in-Number-clause-number
+opening-requires-in-Number-clause-number c =
+    number_in_range c.args.infil.now c.in-Number.curve c.requires.infil (sym c.method_in.ensures ∙ c.in-Number.is)
 
-pub returns-in-Number : goal.returns-in-Number
-unfolding opening_of
-returns-in-Number c =
-    let number : FitsSigned w64 c.in-Number.cn6 = search rules in
+pub returns-in-Horton-clause-value : goal.returns-in-Horton-clause-value
+unfolding opening_by
+returns-in-Horton-clause-value c =
+    let m = sym c.method_in.ensures ∙ c.in-Horton.is in
+    let s = c.horton_in.ensures in
+    rw (m, ← s, c.opening.ensures)
+
+pub returns-in-Horton-clause-range : goal.returns-in-Horton-clause-range
+unfolding opening_by
+returns-in-Horton-clause-range c =
+    let m = sym c.method_in.ensures ∙ c.in-Horton.is in
+    let s = c.horton_in.ensures in
+    λ most h.
+    let range = opened_horton most c.in-Horton.curve c.args.state (rw m at c.requires.method) h in
+    rw (m, c.opening.ensures, s) range
+
+pub returns-in-Number-clause-value : goal.returns-in-Number-clause-value
+unfolding opening_by
+returns-in-Number-clause-value c =
+    let m = sym c.method_in.ensures ∙ c.in-Number.is in
     let s = c.number_in.ensures in
-    let e = simp (to_z-of_z, number) at c.opening-in-Number.ensures in
-    rw (c.in-Number.is, ← s, e)
+    rw (m, ← s, c.opening-in-Number.ensures)
+
+pub returns-in-Number-clause-range : goal.returns-in-Number-clause-range
+unfolding opening_by
+returns-in-Number-clause-range c =
+    let m = sym c.method_in.ensures ∙ c.in-Number.is in
+    let s = c.number_in.ensures in
+    let number = number_in_range c.args.infil.now c.in-Number.curve c.requires.infil m in
+    λ most h.
+    let range = opened_number most c.in-Number.curve c.args.state number (rw m at c.requires.method) h in
+    rw (m, c.opening-in-Number.ensures, s) range

@@ -4,7 +4,6 @@ use Rattle.std.proofs.lemmas.Int.{to_z-of_z}
 use Rattle.fixed_num.proofs.Bounds.{within_add, within_between, within_number, fits64}
 use Rattle.net_types.specs.declared.network.LinkKind.{LinkKind}
 use Rattle.net_types.specs.Ranges.{LinkKindInRange}
-use Rattle.link_eval.specs.Built.{IsLossless}
 use Rattle.link_eval.specs.Hydraulics.{conduit_of}
 use Rattle.link_eval.proofs.link_law.conduit.Goals as goal
 

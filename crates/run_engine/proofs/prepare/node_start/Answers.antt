@@ -1,5 +1,5 @@
-use Rattle.std.proofs.Common.{rules, ◌∙◌, refl, FitsSigned, w64}
-use Rattle.std.proofs.lemmas.Int.{to_z-of_z}
+use Rattle.std.proofs.Common.{arith, rules, ◌∙◌, refl, FitsSigned, w64}
+use Rattle.std.proofs.lemmas.Int.{ints, to_z-of_z}
 use Rattle.fixed_num.proofs.Bounds.{fits64}
 use Rattle.trial_model.specs.Fits.{node_fixed_at}
 use Rattle.fixed_num.specs.Lists.{number}
@@ -15,6 +15,11 @@ overflow_sub-result c =
     let inflow : FitsSigned w64 (number c.args.inflows.now n) = search rules in
     let outflow : FitsSigned w64 (number c.args.outflows.now n) = search rules in
     simp (to_z-of_z, lateral, inflow, outflow, fits64 (gross_within c.requires.last i) tt) (fits64 (net_within c.requires.last i o) tt)
+
+pub lateral_flow-requires-clause-calendar : goal.lateral_flow-requires-clause-calendar
+lateral_flow-requires-clause-calendar c =
+    let start = c.requires.project.faultless.sound.options.start_in in
+    record { from = omega (arith, ints, start.from); to = omega (arith, ints, start.to) }
 
 pub returns : goal.returns
 returns c =

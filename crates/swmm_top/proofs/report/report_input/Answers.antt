@@ -1,6 +1,5 @@
 -- An input that is too long, one that is read, and one for which there is no memory.
 use Rattle.swmm_top.proofs.OutcomeLemmas.{report_put, input_long}
-use Rattle.swmm_top.proofs.ReadLemmas.{read_tables}
 use Rattle.swmm_top.proofs.report.report_input.Goals as goal
 
 pub returns-then-input-gt-INPUT_LIMIT-clause-outcome : goal.returns-then-input-gt-INPUT_LIMIT-clause-outcome
@@ -9,6 +8,3 @@ returns-then-input-gt-INPUT_LIMIT-clause-outcome g c =
 
 pub returns-in-Ok-clause-outcome : goal.returns-in-Ok-clause-outcome
 returns-in-Ok-clause-outcome g c = c.report_read.ensures.outcome c.args.input.now c.if-input-gt-INPUT_LIMIT.false c.in-Ok.ensures.reading
-
-pub report_read-requires-clause-tables : goal.report_read-requires-clause-tables
-report_read-requires-clause-tables g c = read_tables _ _ c.in-Ok.ensures.reading

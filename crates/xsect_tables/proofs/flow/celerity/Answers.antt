@@ -12,7 +12,7 @@ use Rattle.xsect_tables.proofs.flow.celerity.Goals.{After-quo, After-root2}
 wide : (c : After-quo) → c.max.result ≡ int_max c.args.width (pos 1)
 wide c = simp (to_z-of_z, c.ranges.width) at c.max.ensures.value
 
-divisor : (c : After-quo) → IsBetween (pos 1) c.max.result (pos (10 ^ 12))
+divisor : (c : After-quo) → IsBetween (pos 1) c.max.result (pos (10 ^ 18))
 divisor c = rw (wide c) (at_least 1 c.requires.width (omega arith))
 
 depth : (c : After-quo) → c.quo.result ≡ quo_of (c.args.area *ℤ pos 1_000_000) c.max.result
@@ -21,7 +21,7 @@ depth c =
     let m = within_between (divisor c) in
     simp (to_z-of_z, c.ranges.area, fits_wider _ c.ranges.area, fits64 m tt, fits128 m tt, fits128 product tt) at c.quo.ensures.value
 
-deep : (c : After-quo) → IsBetween (pos 0) c.quo.result (pos (10 ^ 22))
+deep : (c : After-quo) → IsBetween (pos 0) c.quo.result (pos (10 ^ 25))
 deep c =
     let q = between_quo_by 1 (between_mul c.requires.area (between_number (pos 1_000_000))) (divisor c).from tt in
     rw (depth c) (record { from = q.from; to = omega (arith, ints, q.to) })
@@ -34,14 +34,14 @@ root2-requires c =
     let product = between_mul (between_number (pos 9_814_560)) (deep c) in
     simp (to_z-of_z, fits128 (within_between (deep c)) tt, fits128 (within_between product) tt) product.from
 
-value : (c : After-root2) → c.max.result ≡ int_max c.args.width (pos 1) → c.quo.result ≡ quo_of (c.args.area *ℤ pos 1_000_000) c.max.result → IsBetween (pos 0) c.quo.result (pos (10 ^ 22)) → c.root2.result ≡ celerity_of c.args.area c.args.width
+value : (c : After-root2) → c.max.result ≡ int_max c.args.width (pos 1) → c.quo.result ≡ quo_of (c.args.area *ℤ pos 1_000_000) c.max.result → IsBetween (pos 0) c.quo.result (pos (10 ^ 25)) → c.root2.result ≡ celerity_of c.args.area c.args.width
 unfolding celerity_of
 value c m q d =
     let product = within_mul (within_number 9_814_560) (within_between d) in
     let root = simp (to_z-of_z, fits128 (within_between d) tt, fits128 product tt) at c.root2.ensures.value in
     cc (m, q, root)
 
-range : (c : After-root2) → c.root2.result ≡ celerity_of c.args.area c.args.width → IsBetween (pos 0) c.root2.result (pos (10 ^ 15))
+range : (c : After-root2) → c.root2.result ≡ celerity_of c.args.area c.args.width → IsBetween (pos 0) c.root2.result (pos (10 ^ 16))
 range c v = rw v (celerity-between c.requires.area c.requires.width)
 
 pub overflow_cast-result : goal.overflow_cast-result

@@ -13,7 +13,7 @@ value c =
     let product = within_mul (within_between c.requires.speed) (within_between c.requires.area) in
     simp (to_z-of_z, c.ranges.speed, fits_wider _ c.ranges.speed, c.ranges.area, fits_wider _ c.ranges.area, fits128 product tt) at c.quo.ensures.value
 
-range : (c : After-quo) → IsBetween (pos 0) c.quo.result (pos (10 ^ 24))
+range : (c : After-quo) → IsBetween (pos 0) c.quo.result (pos (10 ^ 31))
 range c = rw (value c) (discharge-between c.requires.speed c.requires.area)
 
 pub returns-clause-value : goal.returns-clause-value

@@ -1,4 +1,4 @@
-use Rattle.std.proofs.Common.{◌≡◌, ◌^◌, pos, ◌*ℤ◌, ap, ◌∙◌, arith}
+use Rattle.std.proofs.Common.{◌≡◌, ◌*◌, ◌^◌, pos, ◌*ℤ◌, ap, ◌∙◌, arith}
 use Rattle.std.specs.Int.{int_max}
 use Rattle.std.proofs.lemmas.Int.{to_z-of_z}
 use Rattle.fixed_num.specs.Ranges.{IsBetween}
@@ -16,12 +16,12 @@ value : (c : After-quo) → c.quo.result ≡ ratio_of c.args.area c.args.perimet
 unfolding ratio_of
 value c =
     let product = within_mul (within_between c.requires.area) (within_number 1_000_000) in
-    let divisor : IsBetween (pos 1) c.max.result (pos (10 ^ 13)) = rw (wide c) (at_least 1 c.requires.perimeter (omega arith)) in
+    let divisor : IsBetween (pos 1) c.max.result (pos (10 ^ 18)) = rw (wide c) (at_least 1 c.requires.perimeter (omega arith)) in
     let m = within_between divisor in
     let quotient = simp (to_z-of_z, c.ranges.area, fits_wider _ c.ranges.area, fits64 m tt, fits128 m tt, fits128 product tt) at c.quo.ensures.value in
     quotient ∙ ap (quo_of (c.args.area *ℤ pos 1_000_000)) (wide c)
 
-range : (c : After-quo) → c.quo.result ≡ ratio_of c.args.area c.args.perimeter → IsBetween (pos 0) c.quo.result (pos (10 ^ 9))
+range : (c : After-quo) → c.quo.result ≡ ratio_of c.args.area c.args.perimeter → IsBetween (pos 0) c.quo.result (pos (3 * 10 ^ 13))
 range c v = rw v (ratio-between c.requires.area c.requires.perimeter c.requires.wet)
 
 pub overflow_cast-result : goal.overflow_cast-result

@@ -14,7 +14,7 @@ power c =
     let cube = within_mul square (within_number 1_000_000_000) in
     simp (to_z-of_z, c.ranges.radius, fits_wider _ c.ranges.radius, fits128 square tt, fits128 cube tt) at c.root3-power.ensures.value
 
-small : (c : After-root3-power) → IsBetween (pos 0) c.root3-power.result (pos (10 ^ 9))
+small : (c : After-root3-power) → IsBetween (pos 0) c.root3-power.result (pos (10 ^ 12))
 small c = rw (power c) (between_root3 (between_mul (between_mul c.requires.radius c.requires.radius) (between_number (pos 1_000_000_000))) tt)
 
 pub overflow_mul-power : goal.overflow_mul-power
@@ -22,7 +22,7 @@ overflow_mul-power c =
     let p = within_between (small c) in
     simp (to_z-of_z, fits128 p tt, c.ranges.slope6, fits_wider _ c.ranges.slope6) (fits128 (within_mul p (within_between c.requires.slope)) tt)
 
-value : (c : After-quo) → c.root3-power.result ≡ root3_of (c.args.radius *ℤ c.args.radius *ℤ pos 1_000_000_000) → IsBetween (pos 0) c.root3-power.result (pos (10 ^ 9)) → c.quo.result ≡ speed_of c.args.radius c.args.slope6 c.args.n6
+value : (c : After-quo) → c.root3-power.result ≡ root3_of (c.args.radius *ℤ c.args.radius *ℤ pos 1_000_000_000) → IsBetween (pos 0) c.root3-power.result (pos (10 ^ 12)) → c.quo.result ≡ speed_of c.args.radius c.args.slope6 c.args.n6
 unfolding speed_of
 value c p s =
     let product = within_mul (within_between s) (within_between c.requires.slope) in
@@ -30,7 +30,7 @@ value c p s =
     let quotient = simp (to_z-of_z, fits128 (within_between s) tt, c.ranges.slope6, fits_wider _ c.ranges.slope6, c.ranges.n6, fits_wider _ c.ranges.n6, fits128 product tt, fits128 below tt) at c.quo.ensures.value in
     cc (p, quotient)
 
-range : (c : After-quo) → c.quo.result ≡ speed_of c.args.radius c.args.slope6 c.args.n6 → IsBetween (pos 0) c.quo.result (pos (10 ^ 15))
+range : (c : After-quo) → c.quo.result ≡ speed_of c.args.radius c.args.slope6 c.args.n6 → IsBetween (pos 0) c.quo.result (pos (10 ^ 18))
 range c v = rw v (speed-between c.requires.radius c.requires.slope c.requires.roughness)
 
 pub overflow_cast-result : goal.overflow_cast-result

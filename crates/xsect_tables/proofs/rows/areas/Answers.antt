@@ -12,8 +12,8 @@ use Rattle.xsect_tables.proofs.rows.areas.Goals.{After-quo}
 pub loop-i-init : goal.loop-i-init
 loop-i-init c = record { filled = filled_first _ (area_none _); below = refl; range = record { from = omega (arith, ints); to = omega (arith, ints) } }
 
-sum : {i : ℕ} {below strip : ℤ} → i < 200 → IsBetween (pos 0) below (pos (10 ^ 19 * i)) → IsBetween (pos 0) strip (pos (10 ^ 19)) → IsBetween (pos 0) (below +ℤ strip) (pos (10 ^ 19 * 200))
-sum {i = i} h b s = sum_most (10 ^ 19) 200 (i + 1) _ (omega (arith, h)) (sum_between_more (10 ^ 19) i _ _ b s)
+sum : {i : ℕ} {below strip : ℤ} → i < 200 → IsBetween (pos 0) below (pos (3 * 10 ^ 20 * i)) → IsBetween (pos 0) strip (pos (3 * 10 ^ 20)) → IsBetween (pos 0) (below +ℤ strip) (pos (3 * 10 ^ 20 * 200))
+sum {i = i} h b s = sum_most (3 * 10 ^ 20) 200 (i + 1) _ (omega (arith, h)) (sum_between_more (3 * 10 ^ 20) i _ _ b s)
 
 pub overflow_add-below : goal.overflow_add-below
 overflow_add-below c =
@@ -27,10 +27,10 @@ quotient c =
     let below = c.loop-i.invariant.range in
     simp (to_z-of_z, fits128 (within_between strip) tt, fits128 (within_between (sum c.loop-i-test.true below strip)) tt) at c.quo.ensures.value
 
-small : (c : After-quo) → IsBetween (pos 0) c.quo.result (pos (10 ^ 16))
+small : (c : After-quo) → IsBetween (pos 0) c.quo.result (pos (10 ^ 17))
 small c =
     let q = between_quo_by {y = pos 1_000_000} 1_000_000 (sum c.loop-i-test.true c.loop-i.invariant.range c.strip_area-below.ensures.range) (le_number tt) tt in
-    subst (λ (z : ℤ). IsBetween (pos 0) z (pos (10 ^ 16))) (sym (quotient c)) (record { from = q.from; to = omega (arith, ints, q.to) })
+    subst (λ (z : ℤ). IsBetween (pos 0) z (pos (10 ^ 17))) (sym (quotient c)) (record { from = q.from; to = omega (arith, ints, q.to) })
 
 pub overflow_cast-row : goal.overflow_cast-row
 overflow_cast-row c = simp (to_z-of_z, fits128 (within_between (small c)) tt) (fits64 (within_between (small c)) tt)
@@ -45,7 +45,7 @@ loop-i-preserved c =
     record {
       filled = simp (to_z-of_z, fits128 (within_between (small c)) tt, fits64 (within_between (small c)) tt) (filled_more _ _ (c.loop-i.i + 1) _ (omega arith) c.loop-i.invariant.filled area);
       below = simp (to_z-of_z, small_strip, small_sum) (sum_more _ c.loop-i.i _ _ c.loop-i.invariant.below c.strip_area-below.ensures.value);
-      range = simp (to_z-of_z, small_strip, small_sum) (sum_between_more (10 ^ 19) c.loop-i.i _ _ below strip);
+      range = simp (to_z-of_z, small_strip, small_sum) (sum_between_more (3 * 10 ^ 20) c.loop-i.i _ _ below strip);
     }
 
 pub returns : goal.returns

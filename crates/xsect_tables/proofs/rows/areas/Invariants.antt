@@ -9,5 +9,5 @@ abbrev pub invariant-loop-i : goal.invariant-loop-i
 invariant-loop-i l = record {
   filled : Filled (grid_area l.section) l.row (l.i + 1);
   below : l.below ≡ sum_below (area_of_strip l.section) l.i;
-  range : IsBetween (pos 0) l.below (pos (10 ^ 19 * l.i));
+  range : IsBetween (pos 0) l.below (pos (3 * 10 ^ 20 * l.i));
 }

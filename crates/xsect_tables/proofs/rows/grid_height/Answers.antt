@@ -4,7 +4,7 @@ use Rattle.std.proofs.lemmas.Int.{ints, to_z-of_z, to_z_pos}
 use Rattle.fixed_num.specs.Ranges.{IsBetween}
 use Rattle.fixed_num.proofs.Bounds.{between_mul, within_between, fits64, fits128, fits_wider}
 use Rattle.xsect_tables.specs.SectionTable.{grid_height as height_of_grid}
-use Rattle.xsect_tables.proofs.GridLemmas.{grid_between}
+use Rattle.xsect_tables.proofs.GridLemmas.{grid_between, grid_in_full}
 use Rattle.xsect_tables.proofs.rows.grid_height.Goals as goal
 use Rattle.xsect_tables.proofs.rows.grid_height.Goals.{After-quo}
 
@@ -22,6 +22,11 @@ range c = subst (λ (z : ℤ). IsBetween (pos 0) z (pos (10 ^ 9))) (sym (value c
 
 pub returns-clause-value : goal.returns-clause-value
 returns-clause-value c = simp (to_z-of_z, fits128 (within_between (range c)) tt, fits64 (within_between (range c)) tt) (value c)
+
+pub returns-clause-within : goal.returns-clause-within
+returns-clause-within c =
+    let inside = grid_in_full c.requires.full c.args.i c.requires.place in
+    simp (to_z-of_z, c.ranges.full, fits128 (within_between (range c)) tt, fits64 (within_between (range c)) tt) (rw (value c) inside)
 
 pub returns-clause-range : goal.returns-clause-range
 returns-clause-range c = simp (to_z-of_z, fits128 (within_between (range c)) tt, fits64 (within_between (range c)) tt) (range c)

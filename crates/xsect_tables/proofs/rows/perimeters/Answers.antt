@@ -1,54 +1,31 @@
-use Rattle.std.proofs.Common.{◌≡◌, ℕ, ◌+◌, ◌*◌, ◌^◌, ◌<◌, ℤ, pos, ◌+ℤ◌, FitsSigned, arith}
-use Rattle.std.specs.Int.{w64}
-use Rattle.std.proofs.lemmas.Int.{ints, to_z-of_z}
-use Rattle.fixed_num.specs.Ranges.{IsBetween}
-use Rattle.fixed_num.proofs.Bounds.{within_between, fits64}
-use Rattle.xsect_tables.specs.SectionTable.{grid_width as width_of_grid, grid_perimeter}
-use Rattle.xsect_tables.proofs.RowLemmas.{filled_none, filled_more, filled_all}
-use Rattle.xsect_tables.proofs.StripLemmas.{perimeter_none, perimeter_more, sum_most, sum_between_more}
+use Rattle.std.proofs.Common.{◌≡◌, ◌∙◌, ◌*◌, ◌^◌, List, ℤ, pos, ◌+ℤ◌, slice_index_or, slice_set, ap, subst, sym, arith}
+use Rattle.std.proofs.lemmas.Int.{to_z-of_z}
+use Rattle.fixed_num.specs.Ranges.{IsWithin}
+use Rattle.fixed_num.proofs.Bounds.{within_add, within_between, fits64}
+use Rattle.xsect_tables.specs.SectionTable.{entry, row_of, grid_perimeter, wetted_perimeter}
+use Rattle.xsect_tables.proofs.RowLemmas.{entry-row_of, last_changed}
+use Rattle.xsect_tables.proofs.TableLemmas.{grid_perimeter-between, top-between, wetted_below, wetted_last}
 use Rattle.xsect_tables.proofs.rows.perimeters.Goals as goal
-use Rattle.xsect_tables.proofs.rows.perimeters.Goals.{After-width_at-wet}
+use Rattle.xsect_tables.proofs.rows.perimeters.Goals.{After-top_width}
 
-bottom : (c : After-width_at-wet) → c.width_at-wet.result ≡ grid_perimeter c.args.section.now 0
-unfolding width_of_grid
-bottom c =
-    let full : FitsSigned w64 c.args.section.now.full = fits64 (within_between c.requires.range.full) tt in
-    let h = simp (to_z-of_z, full) at c.grid_height.ensures.value in
-    let w = simp (to_z-of_z, fits64 (within_between c.grid_height.ensures.range) tt) at c.width_at-wet.ensures.value in
-    perimeter_none _ _ (cc (h, w))
+last : (c : After-top_width) → entry c.side_perimeters-row.result 200 ≡ grid_perimeter c.args.section.now 200
+last c = ap (λ (row : List ℤ). entry row 200) c.side_perimeters-row.ensures ∙ entry-row_of (grid_perimeter c.args.section.now) 200 (omega arith)
 
-pub loop-i-init : goal.loop-i-init
-loop-i-init c =
-    let b = bottom c in
-    let fits : FitsSigned w64 c.width_at-wet.result = fits64 (within_between c.width_at-wet.ensures.range) tt in
-    let r = c.width_at-wet.ensures.range in
-    record {
-      filled = simp (to_z-of_z, fits) (filled_more _ _ 0 _ (omega arith) (filled_none _) b);
-      wet = simp (to_z-of_z, fits) b;
-      range = simp (to_z-of_z, fits) (record { from = r.from; to = omega (arith, ints, r.to) });
-    }
+sides : (c : After-top_width) → IsWithin (2 * 10 ^ 15) (entry c.side_perimeters-row.result 200)
+sides c = rw (last c) (within_between (grid_perimeter-between c.args.section.now 200 c.requires (omega arith)))
 
-sum : {i : ℕ} {wet sides : ℤ} → i < 200 → IsBetween (pos 0) wet (pos (3 * 10 ^ 10 * (i + 1))) → IsBetween (pos 0) sides (pos (3 * 10 ^ 10)) → IsBetween (pos 0) (wet +ℤ sides) (pos (3 * 10 ^ 10 * 201))
-sum {i = i} h w s = sum_most (3 * 10 ^ 10) 201 (i + 1 + 1) _ (omega (arith, h)) (sum_between_more (3 * 10 ^ 10) (i + 1) _ _ w s)
+top : (c : After-top_width) → IsWithin (10 ^ 10) c.top_width.result
+top c = rw c.top_width.ensures (within_between (top-between c.args.section.now.shape c.requires.shape_in))
 
-pub overflow_add-wet : goal.overflow_add-wet
-overflow_add-wet c =
-    let sides = c.strip_sides-wet.ensures.range in
-    let wet = c.loop-i.invariant.range in
-    simp (to_z-of_z, fits64 (within_between sides) tt) (fits64 (within_between (sum c.loop-i-test.true wet sides)) tt)
-
-pub loop-i-preserved : goal.loop-i-preserved
-loop-i-preserved c =
-    let sides = c.strip_sides-wet.ensures.range in
-    let wet = c.loop-i.invariant.range in
-    let small_sum = fits64 (within_between (sum c.loop-i-test.true wet sides)) tt in
-    let small_sides = fits64 (within_between sides) tt in
-    let more = perimeter_more _ c.loop-i.i _ _ c.loop-i.invariant.wet c.strip_sides-wet.ensures.value in
-    record {
-      filled = simp (to_z-of_z, small_sides, small_sum) (filled_more _ _ (c.loop-i.i + 1) _ (omega arith) c.loop-i.invariant.filled more);
-      wet = simp (to_z-of_z, small_sides, small_sum) more;
-      range = simp (to_z-of_z, small_sides, small_sum) (sum_between_more (3 * 10 ^ 10) (c.loop-i.i + 1) _ _ wet sides);
-    }
+pub overflow_add-row : goal.overflow_add-row
+overflow_add-row c =
+    let d = (goal.at.overflow_add-row c).After-top_width in
+    simp (to_z-of_z, fits64 (sides d) tt, fits64 (top d) tt) (fits64 (within_add (sides d) (top d)) tt)
 
 pub returns : goal.returns
-returns c = filled_all _ _ (c.loop-i.i + 1) (omega arith) c.loop-i.invariant.filled
+returns c =
+    let d = (goal.at.returns c).After-top_width in
+    let whole = wetted_last c.args.section.now _ _ (last d) c.top_width.ensures in
+    let changed = last_changed (grid_perimeter c.args.section.now) (wetted_perimeter c.args.section.now) _ (wetted_below c.args.section.now) whole in
+    simp (to_z-of_z, fits64 (sides d) tt, fits64 (top d) tt, fits64 (within_add (sides d) (top d)) tt)
+    (subst (λ (row : List ℤ). slice_set row 200 (entry c.side_perimeters-row.result 200 +ℤ c.top_width.result) ≡ row_of (wetted_perimeter c.args.section.now)) (sym c.side_perimeters-row.ensures) changed)

@@ -34,8 +34,8 @@ value c =
     let s = within_mul c.requires.spread c.requires.spread in
     simp (to_z-of_z, c.ranges.rise, fits_wider _ c.ranges.rise, c.ranges.spread, fits_wider _ c.ranges.spread, fits128 square tt, fits128 four tt, fits128 s tt, fits128 (within_add four s) tt) at c.root2.ensures.value
 
-range : (c : After-root2) → IsBetween (pos 0) c.root2.result (pos (3 * 10 ^ 10))
-range c = subst (λ (z : ℤ). IsBetween (pos 0) z (pos (3 * 10 ^ 10))) (sym (value c)) (sides_between c.requires.rise c.requires.spread)
+range : (c : After-root2) → IsBetween (pos 0) c.root2.result (pos (10 ^ 12))
+range c = subst (λ (z : ℤ). IsBetween (pos 0) z (pos (10 ^ 12))) (sym (value c)) (sides_between c.requires.rise c.requires.spread)
 
 pub overflow_cast-result : goal.overflow_cast-result
 overflow_cast-result c = simp (to_z-of_z, fits128 (within_between (range c)) tt) (fits64 (within_between (range c)) tt)

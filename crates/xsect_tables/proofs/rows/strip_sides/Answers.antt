@@ -1,4 +1,4 @@
-use Rattle.std.proofs.Common.{◌^◌, FitsSigned}
+use Rattle.std.proofs.Common.{◌*◌, ◌^◌, FitsSigned}
 use Rattle.std.specs.Int.{w64}
 use Rattle.std.proofs.lemmas.Int.{to_z-of_z}
 use Rattle.fixed_num.specs.Ranges.{IsWithin}
@@ -13,11 +13,23 @@ low c = within_between c.grid_height-low.ensures.range
 high : (c : After-width_at-wide) → IsWithin (10 ^ 9) c.grid_height-high.result
 high c = within_between c.grid_height-high.ensures.range
 
-narrow : (c : After-width_at-wide) → IsWithin (10 ^ 10) c.width_at-narrow.result
+narrow : (c : After-width_at-wide) → IsWithin (3 * 10 ^ 11) c.width_at-narrow.result
 narrow c = within_between c.width_at-narrow.ensures.range
 
-wide : (c : After-width_at-wide) → IsWithin (10 ^ 10) c.width_at-wide.result
+wide : (c : After-width_at-wide) → IsWithin (3 * 10 ^ 11) c.width_at-wide.result
 wide c = within_between c.width_at-wide.ensures.range
+
+pub width_at-narrow-requires-clause-depth : goal.width_at-narrow-requires-clause-depth
+width_at-narrow-requires-clause-depth c =
+    let full = fits64 (within_between c.requires.range.full_in) tt in
+    let small = within_between c.grid_height-low.ensures.range in
+    simp (to_z-of_z, fits64 small tt) (simp (to_z-of_z, full) at c.grid_height-low.ensures.within)
+
+pub width_at-wide-requires-clause-depth : goal.width_at-wide-requires-clause-depth
+width_at-wide-requires-clause-depth c =
+    let full = fits64 (within_between c.requires.range.full_in) tt in
+    let small = within_between c.grid_height-high.ensures.range in
+    simp (to_z-of_z, fits64 small tt) (simp (to_z-of_z, full) at c.grid_height-high.ensures.within)
 
 pub sides-requires-clause-rise : goal.sides-requires-clause-rise
 sides-requires-clause-rise c = let rise = within_sub (high c) (low c) in simp (to_z-of_z, fits64 (low c) tt, fits64 (high c) tt, fits64 rise tt) rise
@@ -28,7 +40,7 @@ sides-requires-clause-spread c = let spread = within_sub (wide c) (narrow c) in 
 pub returns-clause-value : goal.returns-clause-value
 unfolding sides_of_strip
 returns-clause-value c =
-    let full : FitsSigned w64 c.args.section.now.full = fits64 (within_between c.requires.range.full) tt in
+    let full : FitsSigned w64 c.args.section.now.full = fits64 (within_between c.requires.range.full_in) tt in
     let low_within = within_between c.grid_height-low.ensures.range in
     let high_within = within_between c.grid_height-high.ensures.range in
     let narrow_within = within_between c.width_at-narrow.ensures.range in

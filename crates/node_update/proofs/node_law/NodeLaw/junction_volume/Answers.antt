@@ -2,7 +2,8 @@ use Rattle.std.proofs.Common.{◌≡◌, ◌^◌, ◌-ℤ◌, ◌*ℤ◌, pos}
 use Rattle.std.proofs.lemmas.Int.{to_z-of_z}
 use Rattle.fixed_num.specs.Ranges.{IsWithin}
 use Rattle.fixed_num.specs.Rounding.{quo_of}
-use Rattle.fixed_num.proofs.Bounds.{within_sub, within_mul, within_between, within_quo_by, within_up, le_number, fits64, fits128}
+use Rattle.fixed_num.proofs.Bounds.{within_sub, within_mul, within_between, within_quo_by}
+use Rattle.fixed_num.proofs.Bounds.{within_up, le_number, fits64, fits128}
 use Rattle.node_update.proofs.node_law.NodeLaw.junction_volume.Goals as goal
 use Rattle.node_update.proofs.node_law.NodeLaw.junction_volume.Goals.{After-quo}
 

@@ -1,0 +1,42 @@
+// What a soil takes of the first rain.
+use crate::{HortonState, InfilState, infiltrate, start_state};
+use net_types::Infil;
+
+const SAND: Infil = Infil::Horton {
+    max: 100_000_000,
+    min: 10_000_000,
+    decay6: 2_000_000,
+    dry: 604_800_000,
+    volume: 0,
+};
+
+#[test]
+fn horton_starts_near_the_greatest_rate(rt: HostRuntime) {
+    let mut state = start_state(&SAND);
+    assert_eq!(rt;
+        infiltrate(&SAND, &mut state, 50_000_000, 50_000_000, 300_000),
+        8_333_333
+    );
+}
+
+#[test]
+fn horton_falls_with_what_was_taken(rt: HostRuntime) {
+    let mut state = InfilState::Horton(HortonState { above: 7_500_000 });
+    assert_eq!(rt;
+        infiltrate(&SAND, &mut state, 50_000_000, 50_000_000, 300_000),
+        7_083_333
+    );
+}
+
+#[test]
+fn a_curve_number_takes_a_part_of_the_first_rain(rt: HostRuntime) {
+    let soil = Infil::Number {
+        cn6: 80_000_000,
+        dry: 604_800_000,
+    };
+    let mut state = start_state(&soil);
+    assert_eq!(rt;
+        infiltrate(&soil, &mut state, 50_800_000, 50_800_000, 300_000),
+        28_222_222
+    );
+}

@@ -1,0 +1,4 @@
+pub mod ValueLemmas
+pub mod ItemLemmas
+pub mod FormLemmas
+pub mod PlaceLemmas

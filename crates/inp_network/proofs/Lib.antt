@@ -1,0 +1,3 @@
+pub mod QuantityLemmas
+pub mod NodesLemmas
+pub mod LinksLemmas

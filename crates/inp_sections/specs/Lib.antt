@@ -1,0 +1,3 @@
+pub mod CrossSections
+pub mod Losses
+pub mod Soundness

@@ -1,0 +1,16 @@
+//! What more lines say of links: the sections XSECTIONS and LOSSES of an input file.
+//!
+//! Each section is a table of the items of its lines, which its file in `src/` has; `specs/CrossSections` and
+//! `specs/Losses` say how the record is made of their values. A record has the number of its link. The laws say that
+//! what lines mean lies in its ranges, and that each has a link.
+#![tactic(auto)]
+
+mod cross_sections;
+mod laws;
+mod losses;
+#[cfg(test)]
+mod tests;
+
+pub use cross_sections::{OwnSection, read_cross_sections};
+pub use laws::{losses_are_sound, sections_are_sound};
+pub use losses::{OwnLosses, read_losses};

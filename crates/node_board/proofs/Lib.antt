@@ -1,0 +1,15 @@
+pub mod CodeLemmas
+pub mod ReachedLemmas
+pub mod ShowLemmas
+pub mod WorkerSteps
+pub mod StopLemmas
+pub mod ClaimSteps
+pub mod ItemSteps
+pub mod AmountSteps
+pub mod PutSteps
+pub mod LoadSteps
+pub mod LeadSteps
+pub mod SplitSteps
+pub mod DoneSteps
+pub mod Calls
+pub mod OpeningSteps

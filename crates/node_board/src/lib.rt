@@ -1,0 +1,22 @@
+//! The board on which threads share the work of trials: words that change in single atomic steps.
+//!
+//! A board is a table of `atomic_table` whose words stand for the numbers of the phase machine (`specs/Coding.antt`).
+//! Each seat knows what it does; the lead also knows what was opened and, while no phase is open, all words
+//! (`src/views.rt`). The rule of the board (`specs/Rule.antt`) says what holds between any two steps: words and views
+//! show a core that events of the phase machine reach from its start, so its laws hold of the board.
+//!
+//! So far the crate holds the words, the views, the rule, and that each kind of atomic step keeps it, whatever the
+//! order of the steps: a board is opened by the rule and seats are split from the lead ([`boards_open_by_the_rule`],
+//! [`Board::split`]), workers keep the rule ([`workers_keep_the_rule`]), and so does the lead
+//! ([`leads_keep_the_rule`]). The calls by which a board is opened and its seats make these steps are not in the crate:
+//! they come on top.
+#![tactic(auto)]
+
+mod board;
+mod laws;
+mod rule;
+mod views;
+
+pub use board::{Board, Lead, Seat};
+pub use laws::{boards_open_by_the_rule, leads_keep_the_rule, workers_keep_the_rule};
+pub use views::{Plan, Role, View};

@@ -1,0 +1,35 @@
+use Rattle.std.proofs.Common.{◌≡◌, ◌^◌, pos}
+use Rattle.std.proofs.lemmas.Int.{to_z-of_z}
+use Rattle.fixed_num.specs.Ranges.{IsBetween}
+use Rattle.fixed_num.proofs.Bounds.{within_between, within_mul, within_number, fits64, fits128, fits_wider}
+use Rattle.orifice_weir.specs.OrificeFlow.{jet_of}
+use Rattle.orifice_weir.proofs.FlowLemmas.{jet-between}
+use Rattle.orifice_weir.proofs.orifice.jet.Goals as goal
+use Rattle.orifice_weir.proofs.orifice.jet.Goals.{After-root2}
+
+value : (c : After-root2) → c.root2.result ≡ jet_of c.args.head
+unfolding jet_of
+value c =
+    let p1 = within_mul (within_number 2) (within_number 9814560) in
+    let p2 = within_mul p1 (within_between c.requires) in
+    simp (to_z-of_z, c.ranges.head, fits_wider _ c.ranges.head, fits128 p1 tt, fits128 p2 tt) at c.root2.ensures.value
+
+small : (c : After-root2) → IsBetween (pos 0) c.root2.result (pos 1_300_000_000)
+small c = rw (value c) (jet-between c.requires)
+
+pub overflow_cast-result : goal.overflow_cast-result
+overflow_cast-result c =
+    let f = within_between (small (goal.at.overflow_cast-result c).After-root2) in
+    simp (to_z-of_z, fits128 f tt) (fits64 f tt)
+
+pub returns-clause-value : goal.returns-clause-value
+returns-clause-value c =
+    let before = (goal.at.returns-clause-value c).After-root2 in
+    let f = within_between (small before) in
+    simp (to_z-of_z, fits128 f tt, fits64 f tt) (value before)
+
+pub returns-clause-range : goal.returns-clause-range
+returns-clause-range c =
+    let before = (goal.at.returns-clause-range c).After-root2 in
+    let f = within_between (small before) in
+    simp (to_z-of_z, fits128 f tt, fits64 f tt) (small before)

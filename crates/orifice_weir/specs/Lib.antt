@@ -1,0 +1,4 @@
+pub mod Heads
+pub mod OrificeFlow
+pub mod Submergence
+pub mod WeirFlow

@@ -1,0 +1,3 @@
+pub mod CurveReading
+pub mod PumpFlow
+pub mod PumpSetting

@@ -1,0 +1,2 @@
+pub mod RainLemmas
+pub mod RateLemmas

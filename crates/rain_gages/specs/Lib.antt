@@ -1,0 +1,2 @@
+pub mod Rain
+pub mod Intensity

@@ -1,0 +1,2 @@
+pub mod OverlandLemmas
+pub mod VolumeLemmas

@@ -1,0 +1,3 @@
+pub mod Overland
+pub mod Subareas
+pub mod RunoffStep
