@@ -1,14 +1,18 @@
 // The head of the report of a run.
-ghost use Rattle.std.specs.Prelude.{◌≡◌, ◌++◌};
+ghost use Rattle.std.specs.Prelude.{◌≡◌, ◌++◌, pos};
+ghost use Rattle.std.specs.Ordering.{int_eq};
 ghost use Rattle.fault_ports.specs.Causes.{HasCause};
 ghost use Rattle.fault_ports.specs.Output.{Puts};
 ghost use Rattle.report_writer.specs.DateTexts.{HasCalendarDates};
-ghost use Rattle.report_writer.specs.ReportSections.{options_section, units_name};
+ghost use Rattle.report_writer.specs.ReportSections.{options_section, part_line, report_line};
+ghost use Rattle.report_writer.specs.ReportSections.{times_lines, units_name, variable_line};
 ghost use Rattle.report_writer.specs.RunReport.{head_of};
 ghost use Rattle.report_writer.specs.Texts.{line_of, lines_of};
 
 use crate::dates::{date_bytes, time_bytes};
+use crate::peaks::in_unit;
 use fault_ports::{Failed, Sink, put_all, put_parts};
+use inp_values::{Quantity, unit_of};
 use itoa::Buffer;
 use net_types::{FlowUnits, Options, Project, Text};
 
@@ -60,12 +64,23 @@ fn put_options<W: Sink>(to: &mut W, options: &Options) -> Result<(), Failed>
     ensures bytes { Puts (W.held to.old) (W.held to.new) (options_section options.now) result }
     ensures cause { HasCause (W.faults to.old) (W.faults to.new) result }
 {
+    match put_times(to, options) {
+        Ok(()) => put_lengths(to, options),
+        Err(failed) => Err(failed),
+    }
+}
+
+// The flow units, when the run starts and ends, and the routing step.
+fn put_times<W: Sink>(to: &mut W, options: &Options) -> Result<(), Failed>
+    requires { HasCalendarDates options.now }
+    ensures bytes { Puts (W.held to.old) (W.held to.new) (times_lines options.now) result }
+    ensures cause { HasCause (W.faults to.old) (W.faults to.new) result }
+{
     let start_date = date_bytes(options.start);
     let start_time = time_bytes(options.start);
     let end_date = date_bytes(options.finish);
     let end_time = time_bytes(options.finish);
     let mut step = Buffer::new();
-    let mut report = Buffer::new();
     put_parts(
         to,
         &[
@@ -81,10 +96,63 @@ fn put_options<W: Sink>(to: &mut W, options: &Options) -> Result<(), Failed>
             &end_time,
             b"\nRouting Step ",
             step.format(options.step_ms).as_bytes(),
-            b" ms\nReport Step ",
-            report.format(options.report_ms).as_bytes(),
             b" ms\n",
         ],
+    )
+}
+
+// The part of the travel time of variable steps, and the report step.
+fn put_lengths<W: Sink>(to: &mut W, options: &Options) -> Result<(), Failed>
+    ensures bytes { Puts (W.held to.old) (W.held to.new)
+        (variable_line options.now ++ report_line options.now.report_ms) result }
+    ensures cause { HasCause (W.faults to.old) (W.faults to.new) result }
+{
+    match put_variable(to, options) {
+        Ok(()) => put_report_step(to, options.report_ms),
+        Err(failed) => Err(failed),
+    }
+}
+
+fn put_variable<W: Sink>(to: &mut W, options: &Options) -> Result<(), Failed>
+    ensures bytes { Puts (W.held to.old) (W.held to.new) (variable_line options.now) result }
+    ensures cause { HasCause (W.faults to.old) (W.faults to.new) result }
+{
+    if is_constant(options) {
+        put_parts(to, &[])
+    } else {
+        put_part(to, options.units, options.variable6)
+    }
+}
+
+// Whether all steps have the length of the options.
+fn is_constant(options: &Options) -> bool
+    ensures { result ≡ int_eq options.now.variable6 (pos 0) }
+{
+    options.variable6 == 0
+}
+
+// The line of a part of the travel time.
+fn put_part<W: Sink>(to: &mut W, units: FlowUnits, part: i64) -> Result<(), Failed>
+    ensures bytes { Puts (W.held to.old) (W.held to.new) (part_line units part) result }
+    ensures cause { HasCause (W.faults to.old) (W.faults to.new) result }
+{
+    let unit = unit_of(units, Quantity::Coefficient);
+    let mut text = [0; 64];
+    put_parts(
+        to,
+        &[b"Variable Step ", in_unit(part, &unit, &mut text), b"\n"],
+    )
+}
+
+#[tactic(auto, unfolding(crate::specs::ReportSections::report_line))]
+fn put_report_step<W: Sink>(to: &mut W, report_ms: i64) -> Result<(), Failed>
+    ensures bytes { Puts (W.held to.old) (W.held to.new) (report_line report_ms) result }
+    ensures cause { HasCause (W.faults to.old) (W.faults to.new) result }
+{
+    let mut text = Buffer::new();
+    put_parts(
+        to,
+        &[b"Report Step ", text.format(report_ms).as_bytes(), b" ms\n"],
     )
 }
 

@@ -166,7 +166,7 @@ fn put_peak<W: Sink>(
 }
 
 // The value in the unit with six places, at the front of the buffer.
-fn in_unit<'a>(value: i64, unit: &Unit, buffer: &'a mut [u8; 64]) -> &'a [u8]
+pub(crate) fn in_unit<'a>(value: i64, unit: &Unit, buffer: &'a mut [u8; 64]) -> &'a [u8]
     requires { IsUnit unit.now }
     ensures { result.now ≡ decimal_text value unit.now 6 }
 {

@@ -6,6 +6,7 @@ pub mod OpeningTops
 pub mod PreparedLemmas
 pub mod StepLemmas
 pub mod StateLemmas
+pub mod ClockLemmas
 pub mod SumsLemmas
 pub mod KeptLemmas
 pub mod ReportLemmas

@@ -15,6 +15,7 @@ use Rattle.net_types.specs.declared.network.NodeKind.{NodeKind}
 use Rattle.net_types.specs.declared.network.NodeKind.TheVariants.{Junction, Outfall, Storage}
 use Rattle.net_types.specs.declared.network.Stage.{Stage}
 use Rattle.net_types.specs.declared.network.Stage.TheVariants.{Free, Normal, Fixed, Tidal, Series}
+use Rattle.net_types.specs.declared.options.FlowUnits.{FlowUnits}
 use Rattle.net_types.specs.declared.project.Project.{Project}
 use Rattle.net_types.specs.declared.network.LinkKind.{LinkKind}
 use Rattle.net_types.specs.declared.network.LinkKind.TheVariants.{Conduit, Pump, Orifice, Weir}
@@ -24,7 +25,8 @@ use Rattle.phase_law.specs.Law.{Law}
 use Rattle.phase_law.specs.Ranges.{HeadInRange, SumsInRange, LinkFixedInRange, NodeFixedInRange}
 use Rattle.phase_law.specs.declared.values.LinkFixed.{LinkFixed}
 use Rattle.phase_law.specs.declared.values.NodeFixed.{NodeFixed}
-use Rattle.time_series.specs.LateralFlow.{lateral_of}
+use Rattle.time_series.specs.LateralFlow.{lateral_at}
+use Rattle.time_series.specs.Stages.{elevation_of, kind_stage, stage_at, stage_level}
 use Rattle.trial_model.specs.declared.nets.Nets.{Nets}
 use Rattle.trial_model.specs.Fits.{Fits, FlowsFit}
 use Rattle.fixed_num.specs.Lists.{number, list_of}
@@ -33,29 +35,34 @@ use Rattle.trial_model.specs.Trial.{inflow_of, outflow_of, SumsOf}
 use Rattle.trial_model.proofs.FlowLemmas.{flow_sums_most, listed_inflows, listed_outflows, listed_sums}
 use Rattle.trial_model.proofs.RangeLemmas.{listed}
 use Rattle.link_eval.specs.LawGood.{head_of_law as head_in}
+use Rattle.run_engine.specs.Amounts.{laterals_at}
 use Rattle.run_engine.specs.Ready.{IsReady}
-use Rattle.run_engine.specs.States.{kind_flow, kind_head, level_of, opening, opening_flow}
-use Rattle.run_engine.specs.States.{opening_head, opening_node, project_law, stage_of}
+use Rattle.run_engine.specs.States.{kind_flow, kind_head, opening, opening_flow}
+use Rattle.run_engine.specs.States.{opening_head, opening_node, project_law}
 use Rattle.run_engine.proofs.LawLemmas.{law_links, law_nodes, project_law_good}
 use Rattle.run_engine.proofs.RunLemmas.{run_node}
 
 -- ---- ranges of a node's parts
-level_within : (stage : Stage) → StageInRange stage → IsElevation (level_of stage)
-level_within (Fixed level) h = h
-level_within Free h = within_up (within_number 0) tt
-level_within Normal h = within_up (within_number 0) tt
-level_within (Tidal curve) h = within_up (within_number 0) tt
-level_within (Series series) h = within_up (within_number 0) tt
+elevation_in : (units : FlowUnits) (value6 : ℤ) → IsElevation (elevation_of units value6)
+unfolding elevation_of
+elevation_in units value6 = record { within = (within_cut _ (le_number tt) (within_minus (10 ^ 10)) (within_number (10 ^ 10))).within }
 
-stage_within : (kind : NodeKind) → NodeKindInRange kind → IsElevation (stage_of kind)
-stage_within (Outfall stage gated) h = level_within stage h
-stage_within (Junction surcharge pond) h = within_up (within_number 0) tt
-stage_within (Storage shape) h = within_up (within_number 0) tt
+level_within : (project : Project) (moment : ℤ) (stage : Stage) → StageInRange stage → IsElevation (stage_level project moment stage)
+level_within project moment (Fixed level) h = h
+level_within project moment Free h = within_up (within_number 0) tt
+level_within project moment Normal h = within_up (within_number 0) tt
+level_within project moment (Tidal curve) h = elevation_in project.options.units _
+level_within project moment (Series series) h = elevation_in project.options.units _
 
-open_within : (kind : NodeKind) {invert y0 : ℤ} → NodeKindInRange kind → IsElevation invert → IsDepth y0 → IsHead (kind_head kind invert y0)
-open_within (Outfall stage gated) h i y = within_up (within_max i (level_within stage h)) tt
-open_within (Junction surcharge pond) h i y = within_up (within_add i (within_between y)) tt
-open_within (Storage shape) h i y = within_up (within_add i (within_between y)) tt
+stage_within : (project : Project) (moment : ℤ) (kind : NodeKind) → NodeKindInRange kind → IsElevation (kind_stage project moment kind)
+stage_within project moment (Outfall stage gated) h = level_within project moment stage h
+stage_within project moment (Junction surcharge pond) h = within_up (within_number 0) tt
+stage_within project moment (Storage shape) h = within_up (within_number 0) tt
+
+open_within : (kind : NodeKind) {invert y0 stage : ℤ} → IsElevation invert → IsDepth y0 → IsElevation stage → IsHead (kind_head kind invert y0 stage)
+open_within (Outfall kind gated) i y s = within_up (within_max i s) tt
+open_within (Junction surcharge pond) i y s = within_up (within_add i (within_between y)) tt
+open_within (Storage shape) i y s = within_up (within_add i (within_between y)) tt
 
 kind_flow_in : (kind : LinkKind) → LinkKindInRange kind → IsFlow (kind_flow kind)
 kind_flow_in (Conduit long n6 z1 z2 q0 q_max entry6 exit6 avg6 flap) h = h.q0_in
@@ -63,16 +70,34 @@ kind_flow_in (Pump curve on startup shutoff) h = within_up (within_number 0) tt
 kind_flow_in (Orifice bottom offset cd6 flap) h = within_up (within_number 0) tt
 kind_flow_in (Weir notch crest cd6 flap contractions) h = within_up (within_number 0) tt
 
-pub lateral_in : (project : Project) (n : ℕ) → IsFlow (lateral_of project n)
-lateral_in project n = record { within = (within_cut _ (le_number tt) (within_minus (10 ^ 12)) (within_number (10 ^ 12))).within }
+pub lateral_in : (project : Project) (n : ℕ) (moment : ℤ) → IsFlow (lateral_at project n moment)
+lateral_in project n moment = record { within = (within_cut _ (le_number tt) (within_minus (10 ^ 12)) (within_number (10 ^ 12))).within }
+
+-- of the list of all
+pub laterals_number : (project : Project) (moment : ℤ) {laterals : List ℤ} (n : ℕ) → n < length project.nodes → laterals ≡ laterals_at project moment
+    → number laterals n ≡ lateral_at project n moment
+laterals_number project moment n inside is =
+    ap (λ (xs : List ℤ). number xs n) is ∙ listed (λ k. lateral_at project k moment) (length project.nodes) n (pos 0) inside
+
+pub laterals_in : (project : Project) (moment : ℤ) {laterals : List ℤ} (n : ℕ) → n < length project.nodes → laterals ≡ laterals_at project moment → IsFlow (number laterals n)
+laterals_in project moment n inside is = subst IsFlow (sym (laterals_number project moment n inside is)) (lateral_in project n moment)
+
+pub laterals_count : (project : Project) (moment : ℤ) {laterals : List ℤ} → laterals ≡ laterals_at project moment → length laterals ≡ length project.nodes
+laterals_count project moment is =
+    ap (λ (xs : List ℤ). length xs) is ∙ length-map-range_with_len (λ k. lateral_at project k moment) 0 (length project.nodes)
 
 -- ---- of nodes and links by their numbers
 module _ {project : Project} (r : IsReady project) where
-  pub stage_in : (n : ℕ) → n < length project.nodes → IsHead (stage_of (node_of project.nodes n).kind)
-  stage_in n inside = within_up (stage_within (node_of project.nodes n).kind (run_node project r n inside).kind_in) tt
+  level_in : (moment : ℤ) (n : ℕ) → n < length project.nodes → IsElevation (stage_at project n moment)
+  level_in moment n inside = stage_within project moment (node_of project.nodes n).kind (run_node project r n inside).kind_in
 
-  opened_within : (n : ℕ) → n < length project.nodes → IsHead (opening_head (node_of project.nodes n))
-  opened_within n inside = let node = run_node project r n inside in open_within (node_of project.nodes n).kind node.kind_in node.invert_in node.y0_in
+  pub stage_in : (moment : ℤ) (n : ℕ) → n < length project.nodes → IsHead (stage_at project n moment)
+  stage_in moment n inside = within_up (level_in moment n inside) tt
+
+  opened_within : (n : ℕ) → n < length project.nodes → IsHead (opening_head project n)
+  opened_within n inside =
+      let node = run_node project r n inside in
+      open_within (node_of project.nodes n).kind node.invert_in node.y0_in (level_in (pos 0) n inside)
 
   opened_flow : (l : ℕ) → l < length project.links → IsFlow (opening_flow project.links l)
   opened_flow l inside =
@@ -123,7 +148,7 @@ opening_fits project good r =
     let law = project_law project in
     let h = hydraulics_of project in
     let flow = opening_flow project.links in
-    let head : ℕ → ℤ = λ n. opening_head (node_of project.nodes n) in
+    let head : ℕ → ℤ = opening_head project in
     record {
       heads = record {
         count = length-map-range_with_len head 0 law.nodes;
@@ -163,8 +188,8 @@ opening_fits project good r =
             (record {
               head = head_in h zero_within;
               net = within_up (within_number 0) tt;
-              lateral = lateral_in project n;
-              stage = head_in h (stage_in r n (omega (arith, law_nodes project)));
+              lateral = lateral_in project n (pos 0);
+              stage = head_in h (stage_in r (pos 0) n (omega (arith, law_nodes project)));
               length = no_length;
             });
       };
@@ -195,7 +220,7 @@ nodes_at project e f =
 -- a state in which nothing has happened, with the heads, flows, nodes and sums of the beginning
 pub opening_is : (project : Project) (s : Nets) {h : Hydraulics} {heads flows : List ℤ} {nodes : List NodeFixed}
     → h ≡ hydraulics_of project → s ≡ resting (length project.nodes) (length project.links)
-    → heads ≡ list_of (λ n. opening_head (node_of project.nodes n)) (length project.nodes)
+    → heads ≡ list_of (opening_head project) (length project.nodes)
     → flows ≡ list_of (opening_flow project.links) (length project.links)
     → nodes ≡ list_of (opening_node project) (length project.nodes)
     → ◌≡◌ {A = Nets}
@@ -215,7 +240,7 @@ opening_is project s {h} {heads} {flows} {nodes} same rests e1 e2 e3 =
     let count = sym (law_nodes project) in
     let flows_are : flows ≡ list_of flow law.links = e2 ∙ ap (list_of flow) (sym (law_links project)) in
     same_nets
-    (e1 ∙ ap (list_of (λ n. opening_head (node_of project.nodes n))) count)
+    (e1 ∙ ap (list_of (opening_head project)) count)
     flows_are
     (ap (λ (l : Law). list_of (λ n. pos (inflow_of l (number flows) n)) l.nodes) law_is
     ∙ ap (λ (xs : List ℤ). list_of (λ n. pos (inflow_of law (number xs) n)) law.nodes) flows_are

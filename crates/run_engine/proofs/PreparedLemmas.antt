@@ -41,9 +41,9 @@ pub same_node : {h h2 net net2 lateral lateral2 stage stage2 dt dt2 : ℤ} → h
 same_node e1 e2 e3 e4 e5 = cc
 
 -- it depends on the lateral inflow of the state alone
-pub same_start : (project : Project) (heads inflows outflows : List ℤ) (a b : List NodeFixed) (dt : ℤ) (n : ℕ) → node_fixed_at a n ≡ node_fixed_at b n
-    → node_start project heads inflows outflows a dt n ≡ node_start project heads inflows outflows b dt n
-same_start project heads inflows outflows a b dt n e =
+pub same_start : (project : Project) (heads inflows outflows : List ℤ) (a b : List NodeFixed) (finish dt : ℤ) (n : ℕ) → node_fixed_at a n ≡ node_fixed_at b n
+    → node_start project heads inflows outflows a finish dt n ≡ node_start project heads inflows outflows b finish dt n
+same_start project heads inflows outflows a b finish dt n e =
     same_node refl (ap (λ (x : NodeFixed). x.lateral +ℤ number inflows n -ℤ number outflows n) e) refl refl refl
 
 -- the amounts of a state that fits
@@ -73,21 +73,21 @@ laterals_are {law} {nodes} {xs} {count} fit e same =
 
 -- ---- the state made ready
 -- part by part
-pub prepared_is : (project : Project) (dt : ℤ) (s : Nets) {h : Hydraulics} {links : List LinkFixed} {nodes : List NodeFixed} → h ≡ hydraulics_of project
+pub prepared_is : (project : Project) (finish dt : ℤ) (s : Nets) {h : Hydraulics} {links : List LinkFixed} {nodes : List NodeFixed} → h ≡ hydraulics_of project
     → links ≡ list_of (link_start h s.heads s.flows dt) (law_of h).links
-    → nodes ≡ list_of (node_start project s.heads s.inflows s.outflows s.nodes dt) (length project.nodes)
-    → ◌≡◌ {A = Nets} (record s { links = links; nodes = nodes }) (prepared project dt s)
+    → nodes ≡ list_of (node_start project s.heads s.inflows s.outflows s.nodes finish dt) (length project.nodes)
+    → ◌≡◌ {A = Nets} (record s { links = links; nodes = nodes }) (prepared project finish dt s)
 unfolding prepared
-prepared_is project dt s {h} {links} {nodes} same e1 e2 =
+prepared_is project finish dt s {h} {links} {nodes} same e1 e2 =
     let links_are : links ≡ list_of (prepared_link project s dt) (project_law project).links =
     e1 ∙ ap (λ (x : Hydraulics). list_of (link_start x s.heads s.flows dt) (law_of x).links) same in
-    let nodes_are : nodes ≡ list_of (prepared_node project s dt) (project_law project).nodes =
-    e2 ∙ ap (list_of (prepared_node project s dt)) (sym (law_nodes project)) in
+    let nodes_are : nodes ≡ list_of (prepared_node project s finish dt) (project_law project).nodes =
+    e2 ∙ ap (list_of (prepared_node project s finish dt)) (sym (law_nodes project)) in
     cc (links_are, nodes_are)
 
 -- in range
 module _ {project : Project} (good : IsGood (hydraulics_of project)) (r : IsReady project) {s : Nets} (fits : Fits (project_law project) s)
-    {dt : ℤ} (length_in : IsStepLength dt) where
+    {finish dt : ℤ} (length_in : IsStepLength dt) where
   link_ready : (l : ℕ) → l < (project_law project).links → LinkFixedInRange (prepared_link project s dt l)
   link_ready l inside =
       let ends = (project_law_good project good).ends_in l inside in
@@ -104,18 +104,18 @@ module _ {project : Project} (good : IsGood (hydraulics_of project)) (r : IsRead
       area_fits : {a : ℤ} → IsBetween (pos 0) a (pos (5 * 10 ^ 11)) → a ≤ℤ pos (10 ^ 12)
       area_fits b = omega (arith, ints, b.to)
 
-  node_ready : (n : ℕ) → n < (project_law project).nodes → NodeFixedInRange (project_law project) (prepared_node project s dt n)
+  node_ready : (n : ℕ) → n < (project_law project).nodes → NodeFixedInRange (project_law project) (prepared_node project s finish dt n)
   node_ready n inside =
       let sums = fits.sums.each n inside in
       record {
         head = fits.heads.each n inside;
         net = net_within (fits.nodes.each n inside).lateral sums.inflow_in sums.outflow_in;
-        lateral = lateral_in project n;
-        stage = head_in (hydraulics_of project) (stage_in r n (omega (arith, law_nodes project)));
+        lateral = lateral_in project n finish;
+        stage = head_in (hydraulics_of project) (stage_in r finish n (omega (arith, law_nodes project)));
         length = length_in;
       }
 
-  pub prepared_fits : Fits (project_law project) (prepared project dt s)
+  pub prepared_fits : Fits (project_law project) (prepared project finish dt s)
   unfolding prepared
   prepared_fits =
       let law = project_law project in
@@ -130,7 +130,7 @@ module _ {project : Project} (good : IsGood (hydraulics_of project)) (r : IsRead
           each = λ l inside. subst (λ (x : LinkFixed). LinkFixedInRange x) (sym (listed (prepared_link project s dt) law.links l no_link inside)) (link_ready l inside);
         };
         nodes = record {
-          count = length-map-range_with_len (prepared_node project s dt) 0 law.nodes;
-          each = λ n inside. subst (λ (x : NodeFixed). NodeFixedInRange law x) (sym (listed (prepared_node project s dt) law.nodes n no_node inside)) (node_ready n inside);
+          count = length-map-range_with_len (prepared_node project s finish dt) 0 law.nodes;
+          each = λ n inside. subst (λ (x : NodeFixed). NodeFixedInRange law x) (sym (listed (prepared_node project s finish dt) law.nodes n no_node inside)) (node_ready n inside);
         };
       }

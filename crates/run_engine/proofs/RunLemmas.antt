@@ -1,5 +1,5 @@
 -- What a project that can be run has.
-use Rattle.std.proofs.Common.{ℕ, ◌%◌, ℤ, pos, ◌-ℤ◌, ◌≤ℤ◌, ◌<ℤ◌, ◌≡◌, ◌<◌, length, unsigned_abs, inl, inr, arith}
+use Rattle.std.proofs.Common.{ℕ, ◌%◌, ℤ, pos, ◌+ℤ◌, ◌-ℤ◌, ◌≤ℤ◌, ◌<ℤ◌, ◌≡◌, ◌<◌, length, unsigned_abs, inl, inr, arith}
 use Rattle.std.specs.List.{All}
 use Rattle.std.proofs.lemmas.Int.{ints}
 use Rattle.std.proofs.lemmas.List.Elements.{All-get_or}
@@ -12,7 +12,8 @@ use Rattle.net_types.specs.declared.project.Project.{Project}
 use Rattle.project_check.proofs.LawLemmas.{faultless_good}
 use Rattle.report_writer.specs.DateTexts.{HasCalendarDates}
 use Rattle.run_engine.specs.Ready.{IsReady}
-use Rattle.run_engine.specs.Times.{AreRunOptions, duration_of}
+use Rattle.time_series.specs.LateralFlow.{IsRunMoment}
+use Rattle.run_engine.specs.Times.{AreRunOptions, IsRunTime, duration_of}
 
 at_least : (a b : ℤ) → ¬ (a <ℤ b) → b ≤ℤ a
 at_least a b h = grind (arith, ints, h)
@@ -38,6 +39,7 @@ run_options project r =
       step = in_range.step_in;
       step_even = in_range.step_even;
       steps = at_least _ (duration_of options) (λ over. times.limit (inr over));
+      variable = in_range.variable_in;
     }
 
 dated : {moment : ℤ} → IsMoment moment → IsCalendarMoment moment
@@ -45,6 +47,21 @@ dated {moment} m = (m.from, omega (arith, ints, m.to))
 
 pub run_dates : (project : Project) → IsReady project → HasCalendarDates project.options
 run_dates project r = let in_range = r.faultless.sound.options in record { start = dated in_range.start_in; finish = dated in_range.finish_in }
+
+-- the moments of a run lie in the years of the calendar: it ends at one of them
+before_end : (start finish moment : ℤ) → IsMoment start → IsMoment finish → pos 0 ≤ℤ moment → moment ≤ℤ (finish -ℤ start) → IsMoment (start +ℤ moment)
+before_end start finish moment s f least most = record { from = omega (arith, ints, s.from, least); to = omega (arith, ints, f.to, most) }
+
+pub run_start : (project : Project) → IsReady project → IsRunMoment project (pos 0)
+run_start project r =
+    let start = r.faultless.sound.options.start_in in
+    record { from = omega (arith, ints, start.from); to = omega (arith, ints, start.to) }
+
+pub run_moment : (project : Project) → IsReady project → {moment : ℤ} → IsRunTime project.options moment → IsRunMoment project moment
+run_moment project r {moment} m =
+    let options = project.options in
+    let in_range = r.faultless.sound.options in
+    before_end options.start options.finish moment in_range.start_in in_range.finish_in m.between.from m.between.to
 
 pub run_node : (project : Project) → IsReady project → (n : ℕ) → n < length project.nodes → NodeInRange (node_at project.nodes n)
 run_node project r n inside = All-get_or NodeInRange project.nodes n no_node inside r.faultless.sound.ranges.nodes

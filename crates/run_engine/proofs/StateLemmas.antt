@@ -1,5 +1,5 @@
 -- The states of a run, and what its steps come to, with one step more.
-use Rattle.std.proofs.Common.{◌≡◌, ◌∙◌, ℕ, ◌+◌, ◌≤◌, Bool, true, false}
+use Rattle.std.proofs.Common.{◌≡◌, ◌∙◌, ℕ, ℤ, pos, ◌+ℤ◌, ◌+◌, ◌≤◌, Bool, true, false}
 use Rattle.std.proofs.Common.{if◌then◌else◌, refl, sym, ap, subst, arith, add-one}
 use Rattle.continuity.specs.Account.{account_of, floods_of}
 use Rattle.link_eval.specs.Hydraulics.{hydraulics_of}
@@ -8,26 +8,34 @@ use Rattle.report_writer.specs.declared.counts.RunCounts.{RunCounts}
 use Rattle.trial_model.specs.declared.step.StepEnd.{StepEnd}
 use Rattle.run_engine.specs.Kept.{AreCountsAt}
 use Rattle.run_engine.specs.Results.{account_at, counts_after, end_at, floods_at}
-use Rattle.run_engine.specs.States.{next_state, opening, state, step_end}
-use Rattle.run_engine.specs.Times.{length_of}
+use Rattle.run_engine.specs.States.{RunState, length_at, moment_at, nets_at, next_nets, next_state, opening, state, step_end}
 
-pub state_none : (project : Project) → state project 0 ≡ opening project
+pub state_none : (project : Project) → state project 0 ≡ record { moment = pos 0; nets = opening project }
 unfolding state
 state_none project = refl
 
-pub state_more : (project : Project) (k : ℕ) → state project (k + 1) ≡ next_state project (length_of project.options k) (state project k)
+pub state_more : (project : Project) (k : ℕ) → state project (k + 1) ≡ next_state project (state project k)
 unfolding state
 state_more project k = rw (add-one k) refl
 
-pub floods_more : (project : Project) (k : ℕ) → floods_at project (k + 1) ≡ floods_of (hydraulics_of project) (state project (k + 1))
+pub nets_more : (project : Project) (k : ℕ) → nets_at project (k + 1) ≡ next_nets project (moment_at project (k + 1)) (length_at project k) (nets_at project k)
+nets_more project k =
+    let next = state_more project k in
+    ap (λ (s : RunState). s.nets) next
+    ∙ ap (λ (finish : ℤ). next_nets project finish (length_at project k) (nets_at project k)) (sym (ap (λ (s : RunState). s.moment) next))
+
+pub moment_more : (project : Project) (k : ℕ) → moment_at project (k + 1) ≡ moment_at project k +ℤ length_at project k
+moment_more project k = ap (λ (s : RunState). s.moment) (state_more project k)
+
+pub floods_more : (project : Project) (k : ℕ) → floods_at project (k + 1) ≡ floods_of (hydraulics_of project) (nets_at project (k + 1))
 unfolding floods_at
 floods_more project k = rw (add-one k) refl
 
-pub account_is : (project : Project) (k : ℕ) → account_at project k ≡ account_of (hydraulics_of project) (state project k) (state project (k + 1)) (length_of project.options k)
+pub account_is : (project : Project) (k : ℕ) → account_at project k ≡ account_of (hydraulics_of project) (nets_at project k) (nets_at project (k + 1)) (length_at project k)
 unfolding account_at
 account_is project k = refl
 
-pub end_is_at : (project : Project) (k : ℕ) → end_at project k ≡ step_end project (length_of project.options k) (state project k)
+pub end_is_at : (project : Project) (k : ℕ) → end_at project k ≡ step_end project (moment_at project (k + 1)) (length_at project k) (nets_at project k)
 unfolding end_at
 end_is_at project k = refl
 

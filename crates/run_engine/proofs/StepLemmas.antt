@@ -20,7 +20,7 @@ use Rattle.trial_model.specs.Trial.{next_in, trial, with_flows}
 use Rattle.trial_model.specs.declared.nets.Nets.{Nets}
 use Rattle.trial_model.specs.declared.step.StepEnd.{StepEnd}
 use Rattle.run_engine.specs.Kept.{HaveSameCounts}
-use Rattle.run_engine.specs.States.{next_state, prepared, prepared_node, project_law, step_end}
+use Rattle.run_engine.specs.States.{next_nets, prepared, prepared_node, project_law, step_end}
 
 -- two states that fit a law have as many of everything
 pub same_counts : {law : Law} {a b : Nets} → Fits law a → Fits law b → HaveSameCounts a b
@@ -45,24 +45,24 @@ unfolding trials
 trials_nodes law s zero = refl
 trials_nodes law s (suc k) = trial_nodes law (trials law s k) (eqb k 0) ∙ trials_nodes law s k
 
-prepared_at : (project : Project) (dt : ℤ) (s : Nets) (n : ℕ) → n < (project_law project).nodes → node_fixed_at (prepared project dt s).nodes n ≡ prepared_node project s dt n
+prepared_at : (project : Project) (finish dt : ℤ) (s : Nets) (n : ℕ) → n < (project_law project).nodes → node_fixed_at (prepared project finish dt s).nodes n ≡ prepared_node project s finish dt n
 unfolding prepared
-prepared_at project dt s n h = get_or-map-range_with_len (prepared_node project s dt) 0 (project_law project).nodes n n no_node h (omega arith)
+prepared_at project finish dt s n h = get_or-map-range_with_len (prepared_node project s finish dt) 0 (project_law project).nodes n n no_node h (omega arith)
 
 net_is : (fixed : NodeFixed) (inflow outflow : ℤ) → fixed.lateral +ℤ inflow -ℤ outflow ≡ net_of fixed inflow outflow
 unfolding net_of
 net_is fixed inflow outflow = refl
 
 -- a state and the next belong together
-pub step_is : (project : Project) (dt : ℤ) (s : Nets) → IsStepOf (hydraulics_of project) s (next_state project dt s) dt
-unfolding next_state
-step_is project dt s =
+pub step_is : (project : Project) (finish dt : ℤ) (s : Nets) → IsStepOf (hydraulics_of project) s (next_nets project finish dt s) dt
+unfolding next_nets
+step_is project finish dt s =
     let law = project_law project in
-    let made = (step_end project dt s).trials in
+    let made = (step_end project finish dt s).trials in
     record {
       each = λ n h.
-          let here : node_fixed_at (trials law (prepared project dt s) made).nodes n ≡ prepared_node project s dt n =
-          ap (λ nodes. node_fixed_at nodes n) (trials_nodes law (prepared project dt s) made) ∙ prepared_at project dt s n h in
+          let here : node_fixed_at (trials law (prepared project finish dt s) made).nodes n ≡ prepared_node project s finish dt n =
+          ap (λ nodes. node_fixed_at nodes n) (trials_nodes law (prepared project finish dt s) made) ∙ prepared_at project finish dt s n h in
           subst (IsFixedOf s dt n) (sym here) (record { head = refl; net = net_is (node_fixed_at s.nodes n) (number s.inflows n) (number s.outflows n); length = refl });
     }
 
@@ -95,20 +95,20 @@ unfolding trials
 trials_tops good s zero below = below
 trials_tops {h} good s (suc k) below = trial_tops good (trials (law_of h) s k) (eqb k 0) (trials_tops good s k below)
 
-prepared_tops : {h : Hydraulics} (project : Project) (dt : ℤ) (s : Nets) → IsBelowTops h s → IsBelowTops h (prepared project dt s)
+prepared_tops : {h : Hydraulics} (project : Project) (finish dt : ℤ) (s : Nets) → IsBelowTops h s → IsBelowTops h (prepared project finish dt s)
 unfolding prepared
-prepared_tops project dt s below = record { each = below.each }
+prepared_tops project finish dt s below = record { each = below.each }
 
-pub next_tops : (project : Project) (dt : ℤ) (s : Nets) → IsGood (hydraulics_of project) → IsBelowTops (hydraulics_of project) s → IsBelowTops (hydraulics_of project) (next_state project dt s)
-unfolding next_state
-next_tops project dt s good below = trials_tops good (prepared project dt s) (step_end project dt s).trials (prepared_tops project dt s below)
+pub next_tops : (project : Project) (finish dt : ℤ) (s : Nets) → IsGood (hydraulics_of project) → IsBelowTops (hydraulics_of project) s → IsBelowTops (hydraulics_of project) (next_nets project finish dt s)
+unfolding next_nets
+next_tops project finish dt s good below = trials_tops good (prepared project finish dt s) (step_end project finish dt s).trials (prepared_tops project finish dt s below)
 
 -- ---- the trials of a state that was made ready give the next one
-module _ (project : Project) (dt : ℤ) (s : Nets) (h : Hydraulics) (ready new : Nets) (end : StepEnd) (law : h ≡ hydraulics_of project) (made : ready ≡ prepared project dt s) (ended : end ≡ end_of (law_of h) ready project.options.max_trials) where
-  pub end_is : end ≡ step_end project dt s
+module _ (project : Project) (finish dt : ℤ) (s : Nets) (h : Hydraulics) (ready new : Nets) (end : StepEnd) (law : h ≡ hydraulics_of project) (made : ready ≡ prepared project finish dt s) (ended : end ≡ end_of (law_of h) ready project.options.max_trials) where
+  pub end_is : end ≡ step_end project finish dt s
   unfolding step_end
   end_is = ended ∙ rw (law, made) refl
 
-  pub next_is : new ≡ trials (law_of h) ready end.trials → new ≡ next_state project dt s
-  unfolding next_state
+  pub next_is : new ≡ trials (law_of h) ready end.trials → new ≡ next_nets project finish dt s
+  unfolding next_nets
   next_is all = all ∙ rw (law, made, end_is) refl

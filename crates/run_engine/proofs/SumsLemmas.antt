@@ -19,8 +19,7 @@ use Rattle.trial_model.specs.declared.nets.Nets.{Nets}
 use Rattle.link_eval.specs.LawGood.{head_in as head_within}
 use Rattle.run_engine.specs.Kept.{AreSumsOf}
 use Rattle.run_engine.specs.Results.{floods_at, node_summaries, link_summaries}
-use Rattle.run_engine.specs.States.{state}
-use Rattle.run_engine.specs.Times.{moment_of}
+use Rattle.run_engine.specs.States.{moment_at, nets_at}
 use Rattle.run_engine.proofs.LawLemmas.{law_nodes}
 use Rattle.continuity.specs.Account.{floods_of, flood_at}
 use Rattle.link_eval.specs.Hydraulics.{hydraulics_of, law_of}
@@ -51,7 +50,7 @@ invert_is nodes n h = get_or-map (λ (node : Node). node.invert) nodes n no_node
 pub nodes_are : (project : Project) (k : ℕ) (figures : Figures) → AreSumsOf project (k + 1) figures → figures.nodes ≡ node_summaries project k
 unfolding node_summaries
 nodes_are project k figures sums =
-    let of = λ (invert : ℤ) (n : ℕ). node_summary (state project) (floods_at project) (moment_of project.options) k invert n in
+    let of = λ (invert : ℤ) (n : ℕ). node_summary (nets_at project) (floods_at project) (moment_at project) k invert n in
     let inverts = inverts_of project.nodes in
     let here : figures.nodes ≡ list_of (λ n. of (number inverts n) n) (length inverts) = rw sums.inverts at sums.summaries.nodes k sums.states in
     here ∙ ap (list_of (λ n. of (number inverts n) n)) (length-map project.nodes (λ (node : Node). node.invert))
@@ -85,4 +84,4 @@ floods_length h s = length-map-range_with_len (flood_at h s) 0 (law_of h).nodes
 pub floods_count : (project : Project) (k : ℕ) → length (floods_at project k) ≡ length project.nodes
 unfolding floods_at
 floods_count project zero = length-replicate (length project.nodes) (pos 0)
-floods_count project (suc k) = floods_length (hydraulics_of project) (state project (suc k)) ∙ law_nodes project
+floods_count project (suc k) = floods_length (hydraulics_of project) (nets_at project (suc k)) ∙ law_nodes project

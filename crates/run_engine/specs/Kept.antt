@@ -1,5 +1,5 @@
 -- What a run keeps between two steps, at the state of this number.
-use Rattle.std.specs.Prelude.{◌≡◌, ℕ, ◌+◌, ◌*◌, ◌^◌, ◌≤◌, List, length, ℤ, pos}
+use Rattle.std.specs.Prelude.{◌≡◌, ℕ, ◌+◌, ◌*◌, ◌^◌, ◌<◌, ◌≤◌, true, List, length, ℤ, pos}
 use Rattle.fixed_num.specs.Ranges.{IsBetween}
 use Rattle.continuity.specs.Run.{Running, IsTotal}
 use Rattle.continuity.specs.StepOf.{IsBelowTops}
@@ -12,10 +12,11 @@ use Rattle.trial_model.specs.Fits.{Fits}
 use Rattle.fixed_num.specs.Lists.{number}
 use Rattle.trial_model.specs.Trial.{SumsOf}
 use Rattle.trial_model.specs.declared.nets.Nets.{Nets}
+use Rattle.run_engine.specs.declared.kept.Kept.{Kept}
 use Rattle.run_engine.specs.Results.{account_at, counts_after, floods_at}
 use Rattle.run_engine.specs.Ready.{IsReady}
-use Rattle.run_engine.specs.States.{project_law, state}
-use Rattle.run_engine.specs.Times.{moment_of, steps_of}
+use Rattle.run_engine.specs.States.{moment_at, nets_at, project_law}
+use Rattle.run_engine.specs.Times.{goes_on, IsRunTime}
 
 -- two states have lists of the same lengths
 pub record HaveSameCounts (a b : Nets) : Type 0 where
@@ -30,10 +31,17 @@ pub record HaveSameCounts (a b : Nets) : Type 0 where
 
 -- it is state k, in range, its sums are those of its own flows, and no junction is above its top
 pub record IsStateAt (project : Project) (k : ℕ) (nets : Nets) : Type 0 where
-  pub same : nets ≡ state project k
+  pub same : nets ≡ nets_at project k
   pub fits : Fits (project_law project) nets
   pub sums : SumsOf (project_law project) nets
   pub tops : IsBelowTops (hydraulics_of project) nets
+
+-- it is the moment of state k, all states before it are before the end, and they are at most 50,000,000
+pub record IsMomentAt (project : Project) (k : ℕ) (moment : ℤ) : Type 0 where
+  pub same : moment ≡ moment_at project k
+  pub range : IsRunTime project.options moment
+  pub going : (j : ℕ) → j < k → goes_on project.options (moment_at project j) ≡ true
+  pub few : k ≤ 50_000_000
 
 -- it is what flooded the nodes in the step that led to state k, in range
 pub record AreFloodsAt (project : Project) (k : ℕ) (floods : List ℤ) : Type 0 where
@@ -46,7 +54,7 @@ pub record AreSumsOf (project : Project) (count : ℕ) (figures : Figures) : Typ
   pub states : figures.states ≡ count
   pub inverts : figures.inverts ≡ inverts_of project.nodes
   pub links : length figures.links ≡ length project.links
-  pub summaries : AreSummaries (state project) (floods_at project) (moment_of project.options) figures
+  pub summaries : AreSummaries (nets_at project) (floods_at project) (moment_at project) figures
 
 -- the total is that of the first k steps
 pub record IsTotalAt (project : Project) (k : ℕ) (running : Running) : Type 0 where
@@ -59,15 +67,15 @@ pub record AreCountsAt (project : Project) (k : ℕ) (counts : RunCounts) : Type
   pub trials : counts.trials ≤ 20 * k
   pub unsettled : counts.unsettled ≤ k
 
--- all that a run keeps; the state before is only room for one
-pub record IsKept (project : Project) (h : Hydraulics) (nets before : Nets) (floods : List ℤ) (sums : Figures)
-    (total : Running) (counts : RunCounts) : Type 0 where
+-- all that a run keeps; the state before and the lateral inflows are only room for them
+pub record IsKept (project : Project) (h : Hydraulics) (kept : Kept) : Type 0 where
   pub ready : IsReady project
   pub law : h ≡ hydraulics_of project
-  pub within : counts.steps ≤ steps_of project.options
-  pub now : IsStateAt project counts.steps nets
-  pub room : Fits (project_law project) before
-  pub flood_room : length floods ≡ length project.nodes
-  pub summed : AreSumsOf project (counts.steps + 1) sums
-  pub totalled : IsTotalAt project counts.steps total
-  pub counted : AreCountsAt project counts.steps counts
+  pub clock : IsMomentAt project kept.counts.steps kept.moment
+  pub now : IsStateAt project kept.counts.steps kept.nets
+  pub room : Fits (project_law project) kept.before
+  pub lateral_room : length kept.laterals ≡ length project.nodes
+  pub flood_room : length kept.floods ≡ length project.nodes
+  pub summed : AreSumsOf project (kept.counts.steps + 1) kept.sums
+  pub totalled : IsTotalAt project kept.counts.steps kept.total
+  pub counted : AreCountsAt project kept.counts.steps kept.counts

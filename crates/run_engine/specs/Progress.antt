@@ -1,5 +1,5 @@
 -- How far a run is (this project's profile).
-use Rattle.std.specs.Prelude.{◌≡◌, ℕ, ◌≤◌, List}
+use Rattle.std.specs.Prelude.{◌≡◌, ℕ, ◌<◌, ◌≤◌, true, List}
 use Rattle.net_types.specs.declared.account.StepAccount.{StepAccount}
 use Rattle.net_types.specs.declared.project.Project.{Project}
 use Rattle.report_writer.specs.declared.counts.RunCounts.{RunCounts}
@@ -8,8 +8,8 @@ use Rattle.summaries.specs.declared.node_summary.NodeSummary.{NodeSummary}
 use Rattle.trial_model.specs.declared.nets.Nets.{Nets}
 use Rattle.run_engine.specs.Results.{total_after, counts_after, node_summaries, link_summaries}
 use Rattle.run_engine.specs.Ready.{IsReady}
-use Rattle.run_engine.specs.States.{state}
-use Rattle.run_engine.specs.Times.{steps_of}
+use Rattle.run_engine.specs.States.{moment_at, nets_at, steps_of}
+use Rattle.run_engine.specs.Times.{goes_on}
 
 -- a run as its callers see it: its project, its state, and what its steps and states came to so far
 pub record Progress : Type 0 where
@@ -23,9 +23,14 @@ pub record Progress : Type 0 where
 -- the run of a project that can be run has made its first k steps
 pub record IsAt (run : Progress) (k : ℕ) : Type 0 where
   pub ready : IsReady run.project
-  pub within : k ≤ steps_of run.project.options
-  pub nets : run.nets ≡ state run.project k
+  pub within : k ≤ steps_of run.project
+  pub nets : run.nets ≡ nets_at run.project k
   pub total : run.total ≡ total_after run.project k
   pub nodes : run.nodes ≡ node_summaries run.project k
   pub links : run.links ≡ link_summaries run.project k
   pub counts : run.counts ≡ counts_after run.project k
+
+-- it goes on at state k: a step is left
+pub record IsGoingAt (project : Project) (k : ℕ) : Type 0 where
+  pub going : goes_on project.options (moment_at project k) ≡ true
+  pub few : k < 50_000_000

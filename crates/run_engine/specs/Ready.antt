@@ -1,13 +1,14 @@
 -- The projects that are ready to be run: those without faults of which all is built (this project's profile).
+use Rattle.std.specs.Prelude.{◌≡◌, []}
 use Rattle.net_types.specs.declared.project.Project.{Project}
 use Rattle.project_check.specs.Faultless.{IsFaultless}
 use Rattle.link_eval.specs.Built.{HasHydraulics}
-use Rattle.time_series.specs.LateralFlow.{HasBuiltInflows}
 
--- all that a run needs of a project is built: its hydraulics and its inflows
+-- all that a run needs of a project is built: its hydraulics; control rules and runoff are not built yet
 pub record IsBuilt (project : Project) : Type 0 where
   pub hydraulics : HasHydraulics project
-  pub inflows : HasBuiltInflows project
+  pub no_rules : project.rules ≡ []
+  pub no_runoff : project.subs ≡ []
 
 pub record IsReady (project : Project) : Type 0 where
   pub faultless : IsFaultless project

@@ -13,13 +13,12 @@ use Rattle.report_writer.specs.declared.counts.RunCounts.{RunCounts}
 use Rattle.summaries.specs.Figures.{node_summary, link_summary}
 use Rattle.summaries.specs.declared.link_summary.LinkSummary.{LinkSummary}
 use Rattle.summaries.specs.declared.node_summary.NodeSummary.{NodeSummary}
-use Rattle.run_engine.specs.States.{state, step_end}
-use Rattle.run_engine.specs.Times.{length_of, moment_of}
+use Rattle.run_engine.specs.States.{length_at, moment_at, nets_at, step_end}
 
 -- the account of the step from state k to the next
 unfoldable pub account_at : Project → ℕ → StepAccount
 account_at project k =
-    account_of (hydraulics_of project) (state project k) (state project (k + 1)) (length_of project.options k)
+    account_of (hydraulics_of project) (nets_at project k) (nets_at project (k + 1)) (length_at project k)
 
 -- the account of the first k steps: each field is the sum of theirs
 abbrev pub total_after : Project → ℕ → StepAccount
@@ -28,11 +27,12 @@ total_after project k = total_of (account_at project) k
 -- what flooded each node in the step that led to state k; nothing before state 0
 unfoldable pub floods_at : Project → ℕ → List ℤ
 floods_at project zero = replicate (length project.nodes) (pos 0)
-floods_at project (suc k) = floods_of (hydraulics_of project) (state project (suc k))
+floods_at project (suc k) = floods_of (hydraulics_of project) (nets_at project (suc k))
 
 -- how the step from state k ended
 unfoldable pub end_at : Project → ℕ → StepEnd
-end_at project k = step_end project (length_of project.options k) (state project k)
+end_at project k =
+    step_end project (moment_at project (k + 1)) (length_at project k) (nets_at project k)
 
 -- how many of the first k steps there are, the trials that they took, and how many of them did not settle
 unfoldable pub counts_after : Project → ℕ → RunCounts
@@ -45,8 +45,8 @@ counts_after project k = record {
 -- the summaries of the states 0 to k
 unfoldable pub node_summaries : Project → ℕ → List NodeSummary
 node_summaries project k =
-    list_of (λ n. node_summary (state project) (floods_at project) (moment_of project.options) k
+    list_of (λ n. node_summary (nets_at project) (floods_at project) (moment_at project) k
     (node_at project.nodes n).invert n) (length project.nodes)
 
 unfoldable pub link_summaries : Project → ℕ → List LinkSummary
-link_summaries project k = list_of (link_summary (state project) (moment_of project.options) k) (length project.links)
+link_summaries project k = list_of (link_summary (nets_at project) (moment_at project) k) (length project.links)

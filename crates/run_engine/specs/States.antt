@@ -1,14 +1,11 @@
 -- The states of a run (Reference Manual volume II, chapter 3; this project's profile).
-use Rattle.std.specs.Prelude.{ℕ, zero, suc, List, replicate, ℤ, pos, ◌+ℤ◌, ◌-ℤ◌}
+use Rattle.std.specs.Prelude.{ℕ, zero, suc, if◌then◌else◌, List, replicate, ℤ, pos, ◌+ℤ◌, ◌-ℤ◌}
 use Rattle.std.specs.Int.{int_max}
 use Rattle.net_types.specs.declared.network.Link.{Link}
 use Rattle.net_types.specs.declared.network.LinkKind.{LinkKind}
 use Rattle.net_types.specs.declared.network.LinkKind.TheVariants.{Conduit, Pump, Orifice, Weir}
-use Rattle.net_types.specs.declared.network.Node.{Node}
 use Rattle.net_types.specs.declared.network.NodeKind.{NodeKind}
 use Rattle.net_types.specs.declared.network.NodeKind.TheVariants.{Junction, Outfall, Storage}
-use Rattle.net_types.specs.declared.network.Stage.{Stage}
-use Rattle.net_types.specs.declared.network.Stage.TheVariants.{Free, Normal, Fixed, Tidal, Series}
 use Rattle.net_types.specs.declared.project.Project.{Project}
 use Rattle.phase_law.specs.Law.{Law}
 use Rattle.phase_law.specs.declared.values.LinkFixed.{LinkFixed}
@@ -17,43 +14,33 @@ use Rattle.trial_model.specs.declared.nets.Nets.{Nets}
 use Rattle.trial_model.specs.declared.step.StepEnd.{StepEnd}
 use Rattle.trial_model.specs.Fits.{node_fixed_at}
 use Rattle.fixed_num.specs.Lists.{number, list_of}
+use Rattle.fixed_num.specs.Sums.{below}
 use Rattle.trial_model.specs.RoutingStep.{end_of, trials}
 use Rattle.trial_model.specs.Start.{no_link}
 use Rattle.trial_model.specs.Trial.{inflow_of, outflow_of}
 use Rattle.link_eval.specs.declared.hydraulics.Hydraulics.{Hydraulics}
 use Rattle.link_eval.specs.Hydraulics.{hydraulics_of, law_of, mid_area_at}
 use Rattle.net_types.specs.Records.{link_at, node_at as node_of}
-use Rattle.time_series.specs.LateralFlow.{lateral_of}
-use Rattle.run_engine.specs.Times.{length_of}
+use Rattle.time_series.specs.LateralFlow.{lateral_at}
+use Rattle.time_series.specs.Stages.{stage_at}
+use Rattle.run_engine.specs.Times.{goes_on, length_of}
 
 -- the law of a project
 abbrev pub project_law : Project → Law
 project_law project = law_of (hydraulics_of project)
 
 -- ---- the opening state
--- the level of a fixed stage; others aren't built
-abbrev pub level_of : Stage → ℤ
-level_of (Fixed level) = level
-level_of Free = pos 0
-level_of Normal = pos 0
-level_of (Tidal curve) = pos 0
-level_of (Series series) = pos 0
-
--- the stage of an outfall; other nodes have none
-abbrev pub stage_of : NodeKind → ℤ
-stage_of (Outfall stage gated) = level_of stage
-stage_of (Junction surcharge pond) = pos 0
-stage_of (Storage shape) = pos 0
-
 -- the head of a node in the beginning: a junction has its initial depth, an outfall its stage where that is
 -- above its invert
-abbrev pub kind_head : NodeKind → (invert y0 : ℤ) → ℤ
-kind_head (Outfall stage gated) invert y0 = int_max invert (level_of stage)
-kind_head (Junction surcharge pond) invert y0 = invert +ℤ y0
-kind_head (Storage shape) invert y0 = invert +ℤ y0
+abbrev pub kind_head : NodeKind → (invert y0 stage : ℤ) → ℤ
+kind_head (Outfall kind gated) invert y0 stage = int_max invert stage
+kind_head (Junction surcharge pond) invert y0 stage = invert +ℤ y0
+kind_head (Storage shape) invert y0 stage = invert +ℤ y0
 
-abbrev pub opening_head : Node → ℤ
-opening_head node = kind_head node.kind node.invert node.y0
+abbrev pub opening_head : Project → ℕ → ℤ
+opening_head project n =
+    let node = node_of project.nodes n in
+    kind_head node.kind node.invert node.y0 (stage_at project n (pos 0))
 
 -- the flow of a link in the beginning
 abbrev pub kind_flow : LinkKind → ℤ
@@ -70,8 +57,8 @@ abbrev pub opening_node : Project → ℕ → NodeFixed
 opening_node project n = record {
   h_old = pos 0;
   net_old = pos 0;
-  lateral = lateral_of project n;
-  stage = stage_of (node_of project.nodes n).kind;
+  lateral = lateral_at project n (pos 0);
+  stage = stage_at project n (pos 0);
   dt = pos 0;
 }
 
@@ -81,7 +68,7 @@ opening project =
     let law = project_law project in
     let flow = opening_flow project.links in
     record {
-      heads = list_of (λ n. opening_head (node_of project.nodes n)) law.nodes;
+      heads = list_of (opening_head project) law.nodes;
       flows = list_of flow law.links;
       inflows = list_of (λ n. pos (inflow_of law flow n)) law.nodes;
       outflows = list_of (λ n. pos (outflow_of law flow n)) law.nodes;
@@ -109,35 +96,73 @@ abbrev pub prepared_link : Project → Nets → (dt : ℤ) → ℕ → LinkFixed
 prepared_link project s = link_start (hydraulics_of project) s.heads s.flows
 
 -- and for a node: its head and its net inflow in the state, and its lateral inflow and stage at the step's end
-abbrev pub node_start : Project → (heads inflows outflows : List ℤ) → List NodeFixed → (dt : ℤ) → ℕ → NodeFixed
-node_start project heads inflows outflows nodes dt n = record {
+abbrev pub node_start : Project → (heads inflows outflows : List ℤ) → List NodeFixed → (finish dt : ℤ) → ℕ → NodeFixed
+node_start project heads inflows outflows nodes finish dt n = record {
   h_old = number heads n;
   net_old = (node_fixed_at nodes n).lateral +ℤ number inflows n -ℤ number outflows n;
-  lateral = lateral_of project n;
-  stage = stage_of (node_of project.nodes n).kind;
+  lateral = lateral_at project n finish;
+  stage = stage_at project n finish;
   dt = dt;
 }
 
-abbrev pub prepared_node : Project → Nets → (dt : ℤ) → ℕ → NodeFixed
+abbrev pub prepared_node : Project → Nets → (finish dt : ℤ) → ℕ → NodeFixed
 prepared_node project s = node_start project s.heads s.inflows s.outflows s.nodes
 
--- a state made ready for the trials of a step of this length
-unfoldable pub prepared : Project → (dt : ℤ) → Nets → Nets
-prepared project dt s =
+-- a state made ready for the trials of a step that finishes at this moment and has this length
+unfoldable pub prepared : Project → (finish dt : ℤ) → Nets → Nets
+prepared project finish dt s =
     let law = project_law project in
     record s {
       links = list_of (prepared_link project s dt) law.links;
-      nodes = list_of (prepared_node project s dt) law.nodes;
+      nodes = list_of (prepared_node project s finish dt) law.nodes;
     }
 
--- how the step of this length from a state ends, and the state after it
-unfoldable pub step_end : Project → (dt : ℤ) → Nets → StepEnd
-step_end project dt s = end_of (project_law project) (prepared project dt s) project.options.max_trials
+-- how such a step from a state ends, and the state after it
+unfoldable pub step_end : Project → (finish dt : ℤ) → Nets → StepEnd
+step_end project finish dt s = end_of (project_law project) (prepared project finish dt s) project.options.max_trials
 
-unfoldable pub next_state : Project → (dt : ℤ) → Nets → Nets
-next_state project dt s = trials (project_law project) (prepared project dt s) (step_end project dt s).trials
+unfoldable pub next_nets : Project → (finish dt : ℤ) → Nets → Nets
+next_nets project finish dt s =
+    trials (project_law project) (prepared project finish dt s) (step_end project finish dt s).trials
+
+-- ---- the states
+-- a state of a run: its moment, in ms since the start, and its heads, flows and what goes with them
+pub record RunState : Type 0 where
+  pub moment : ℤ
+  pub nets : Nets
+
+-- the length of the step from a state, and its finish
+abbrev pub step_length : Project → RunState → ℤ
+step_length project s = length_of project.options s.moment s.nets.least
+
+abbrev pub step_finish : Project → RunState → ℤ
+step_finish project s = s.moment +ℤ step_length project s
+
+-- the state after that step
+abbrev pub next_state : Project → RunState → RunState
+next_state project s = record {
+  moment = step_finish project s;
+  nets = next_nets project (step_finish project s) (step_length project s) s.nets;
+}
 
 -- state k of a run: the opening state, and after each step the next one
-unfoldable pub state : Project → ℕ → Nets
-state project zero = opening project
-state project (suc k) = next_state project (length_of project.options k) (state project k)
+unfoldable pub state : Project → ℕ → RunState
+state project zero = record { moment = pos 0; nets = opening project }
+state project (suc k) = next_state project (state project k)
+
+abbrev pub moment_at : Project → ℕ → ℤ
+moment_at project k = (state project k).moment
+
+abbrev pub nets_at : Project → ℕ → Nets
+nets_at project k = (state project k).nets
+
+abbrev pub length_at : Project → ℕ → ℤ
+length_at project k = step_length project (state project k)
+
+-- how many of the first n states are before the end
+unfoldable pub going_below : Project → ℕ → ℕ
+going_below project n = below (λ k. if goes_on project.options (moment_at project k) then 1 else 0) n
+
+-- the number of steps of a run: as many as its first 50,000,000 states have before the end
+unfoldable pub steps_of : Project → ℕ
+steps_of project = going_below project 50_000_000

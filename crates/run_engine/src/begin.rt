@@ -33,6 +33,6 @@ pub(crate) fn open_sums(
     ensures { IfOk result (λ sums. AreSumsOf project.now 1 sums) }
 {
     let mut sums = Summaries::with_room(alloc, project)?;
-    add_state(project, 0, nets, floods.as_slice(), &mut sums);
+    add_state(project, 0, 0, nets, floods.as_slice(), &mut sums);
     Ok(sums)
 }

@@ -1,8 +1,9 @@
 //! The run of a project by one worker: its opening state, its routing steps, and its report.
 //!
 //! The state sequence of a run is a recursion over the number of steps (`specs/States.antt`): a state is made
-//! ready with the length of the step and the lateral inflows at its end, and the successive trials of the step
-//! give the next one. What a run comes to is said over the list of all its states (`specs/Results.antt`,
+//! ready with the length of the step and the lateral inflows and stages at its finish, and the successive trials of the
+//! step give the next one. A step has the length of the options, or a part of the time that a wave takes through the
+//! quickest conduit (`specs/Times.antt`). What a run comes to is said over the list of all its states (`specs/Results.antt`,
 //! `specs/Report.antt`). The code keeps one state, the one before it, and running totals.
 //!
 //! The contracts that matter: [`open_run`] gives a run at state 0, [`Run::advance_alone`] leaves it at the last state
@@ -11,6 +12,7 @@
 #![tactic(auto, using(fixed_num::proofs::Bounds::casts))]
 
 mod begin;
+mod kept;
 mod one_step;
 mod opening;
 mod output;

@@ -1,15 +1,16 @@
 // A step with all that a run keeps of it.
-ghost use Rattle.std.specs.Prelude.{◌≡◌, ◌+◌, ◌<◌, ◌≤◌, length, if◌then◌else◌};
+ghost use Rattle.std.specs.Prelude.{◌≡◌, ◌+◌, ◌<◌, ◌≤◌, length, true, if◌then◌else◌};
 ghost use Rattle.link_eval.specs.Hydraulics.{hydraulics_of};
 ghost use Rattle.trial_model.specs.Fits.{Fits};
 ghost use Rattle.run_engine.specs.Kept.{AreCountsAt, AreFloodsAt, AreSumsOf, IsKept, IsStateAt, IsTotalAt};
 ghost use Rattle.run_engine.specs.Results.{end_at};
 ghost use Rattle.run_engine.specs.Ready.{IsReady};
-ghost use Rattle.run_engine.specs.States.{project_law, state};
-ghost use Rattle.run_engine.specs.Times.{length_of, steps_of};
+ghost use Rattle.run_engine.specs.States.{length_at, moment_at, project_law};
+ghost use Rattle.run_engine.specs.Times.{IsRunStep, IsRunTime, goes_on};
 
+use crate::kept::Kept;
 use crate::step::make_step;
-use crate::times::{length, moment};
+use crate::times::next_span;
 use continuity::{RunAccount, account_step, find_floods};
 use link_eval::HydraulicLaw;
 use net_types::Project;
@@ -18,28 +19,47 @@ use summaries::Summaries;
 use trial_model::{Nets, StepEnd};
 
 // Makes one step more of all that a run keeps.
-pub(crate) fn one_step(
-    project: &Project,
-    law: &HydraulicLaw,
-    before: &mut Nets,
-    nets: &mut Nets,
-    floods: &mut [i128],
-    sums: &mut Summaries,
-    total: &mut RunAccount,
-    counts: &mut RunCounts,
-)
-    requires kept { IsKept project.now law.now.hydraulics nets.old before.old floods.old sums.old total.old counts.old }
-    requires left { counts.old.steps < steps_of project.now.options }
-    requires few { counts.old.steps < 50_000_000 }
-    ensures kept { IsKept project.now law.now.hydraulics nets.new before.new floods.new sums.new total.new counts.new }
-    ensures steps { counts.new.steps ≡ counts.old.steps + 1 }
+pub(crate) fn one_step(project: &Project, law: &HydraulicLaw, kept: &mut Kept)
+    requires kept { IsKept project.now law.now.hydraulics kept.old }
+    requires going { goes_on project.now.options kept.old.moment ≡ true }
+    requires few { kept.old.counts.steps < 50_000_000 }
+    ensures kept { IsKept project.now law.now.hydraulics kept.new }
+    ensures steps { kept.new.counts.steps ≡ kept.old.counts.steps + 1 }
 {
-    let made = counts.steps;
-    let end = step_on(project, law, made, before, nets);
-    add_floods(project, law, made, nets, floods);
-    add_account(project, law, made, before, nets, floods, total);
-    add_state(project, made + 1, nets, floods, sums);
-    add_counts(project, &end, counts);
+    let made = kept.counts.steps;
+    let span = next_span(&project.options, kept.moment, kept.nets.least);
+    let end = step_on(
+        project,
+        law,
+        made,
+        span.finish,
+        span.length,
+        kept.laterals.as_mut_slice(),
+        &mut kept.before,
+        &mut kept.nets,
+    );
+    let floods = kept.floods.as_mut_slice();
+    add_floods(project, law, made, &kept.nets, floods);
+    add_account(
+        project,
+        law,
+        made,
+        span.length,
+        &kept.before,
+        &kept.nets,
+        floods,
+        &mut kept.total,
+    );
+    add_state(
+        project,
+        made + 1,
+        span.finish,
+        &kept.nets,
+        floods,
+        &mut kept.sums,
+    );
+    add_counts(project, &end, &mut kept.counts);
+    kept.moment = span.finish;
 }
 
 // Makes the step from state `k` to the next, and keeps state `k` in `before`.
@@ -47,21 +67,27 @@ fn step_on(
     project: &Project,
     law: &HydraulicLaw,
     k: u64,
+    finish: i64,
+    dt: i64,
+    laterals: &mut [i128],
     before: &mut Nets,
     nets: &mut Nets,
 ) -> StepEnd
     requires project { IsReady project.now }
     requires law { law.now.hydraulics ≡ hydraulics_of project.now }
-    requires few { k < 50_000_000 }
+    requires finish { finish ≡ moment_at project.now (k + 1) }
+    requires length { dt ≡ length_at project.now k }
+    requires step { IsRunStep project.now.options finish dt }
+    requires places { length laterals.old ≡ length project.now.nodes }
     requires room { Fits (project_law project.now) before.old }
     requires now { IsStateAt project.now k nets.old }
     ensures before { before.new ≡ nets.old }
     ensures next { IsStateAt project.now (k + 1) nets.new }
     ensures end { result ≡ end_at project.now k }
     ensures trials { result.trials ≤ 20 }
+    ensures places { length laterals.new ≡ length project.now.nodes }
 {
-    let dt = length(&project.options, k);
-    make_step(project, law, dt, before, nets)
+    make_step(project, law, finish, dt, laterals, before, nets)
 }
 
 // Finds what flooded the nodes in the step from state `k` to the next.
@@ -79,6 +105,7 @@ fn add_account(
     project: &Project,
     law: &HydraulicLaw,
     k: u64,
+    dt: i64,
     before: &Nets,
     nets: &Nets,
     floods: &[i128],
@@ -87,13 +114,13 @@ fn add_account(
     requires project { IsReady project.now }
     requires law { law.now.hydraulics ≡ hydraulics_of project.now }
     requires few { k < 50_000_000 }
+    requires length { dt ≡ length_at project.now k }
     requires before { IsStateAt project.now k before.now }
     requires next { IsStateAt project.now (k + 1) nets.now }
     requires floods { AreFloodsAt project.now (k + 1) floods.now }
     requires total { IsTotalAt project.now k total.old }
     ensures total { IsTotalAt project.now (k + 1) total.new }
 {
-    let dt = length(&project.options, k);
     let account = account_step(law, before, nets, floods, dt);
     total.add(&account);
 }
@@ -102,18 +129,19 @@ fn add_account(
 pub(crate) fn add_state(
     project: &Project,
     k: u64,
+    moment: i64,
     nets: &Nets,
     floods: &[i128],
     sums: &mut Summaries,
 )
     requires project { IsReady project.now }
     requires few { k ≤ 50_000_000 }
+    requires moment { moment ≡ moment_at project.now k }
     requires now { IsStateAt project.now k nets.now }
     requires floods { AreFloodsAt project.now k floods.now }
     requires sums { AreSumsOf project.now k sums.old }
     ensures sums { AreSumsOf project.now (k + 1) sums.new }
 {
-    let moment = moment(&project.options, k);
     sums.add_state(moment, nets, floods);
 }
 

@@ -1,95 +1,89 @@
 // The opening state of a run.
 ghost use Rattle.std.specs.Prelude.{◌≡◌, ◌<◌, ◌≤◌, ◌^◌, length, pos, IfOk};
-ghost use Rattle.std.specs.List.{All};
-ghost use Rattle.fixed_num.specs.Ranges.{IsElevation, IsDepth};
+ghost use Rattle.fixed_num.specs.Ranges.{IsElevation, IsDepth, IsFlow};
 ghost use Rattle.link_eval.specs.Hydraulics.{hydraulics_of};
-ghost use Rattle.net_types.specs.Ranges.{NodeInRange};
-ghost use Rattle.net_types.specs.Records.{node_at as node_of};
 ghost use Rattle.trial_model.specs.Start.{resting};
-ghost use Rattle.fixed_num.specs.Lists.{list_of};
+ghost use Rattle.fixed_num.specs.Lists.{list_of, number};
+ghost use Rattle.run_engine.specs.Amounts.{laterals_at};
 ghost use Rattle.run_engine.specs.Ready.{IsReady};
-ghost use Rattle.run_engine.specs.States.{kind_flow, kind_head, level_of, opening};
-ghost use Rattle.run_engine.specs.States.{opening_flow, opening_head, opening_node, stage_of};
+ghost use Rattle.run_engine.specs.States.{kind_flow, kind_head, opening};
+ghost use Rattle.run_engine.specs.States.{opening_flow, opening_head, opening_node};
 
 use link_eval::HydraulicLaw;
-use net_types::{Link, LinkKind, Node, NodeKind, OutOfMemory, Project, Stage};
+use net_types::{Link, LinkKind, NodeKind, OutOfMemory, Project};
 use phase_law::NodeFixed;
 use std::alloc::Global;
-use time_series::lateral_flow;
+use time_series::{lateral_flows, node_stage};
 use trial_model::{Nets, sum_flows};
 
-// The state before the first step: initial heads and flows, and what the nodes get of these flows.
+// The state before the first step: initial heads and flows, and what the nodes get of these flows. There is a place
+// for the lateral inflow of each node.
 pub(crate) fn open_state(
     alloc: Global,
     project: &Project,
     law: &HydraulicLaw,
+    laterals: &mut [i128],
 ) -> Result<Nets, OutOfMemory>
     requires project { IsReady project.now }
     requires law { law.now.hydraulics ≡ hydraulics_of project.now }
-    ensures { IfOk result (λ nets. nets ≡ opening project.now) }
+    requires places { length laterals.old ≡ length project.now.nodes }
+    ensures state { IfOk result (λ nets. nets ≡ opening project.now) }
+    ensures places { length laterals.new ≡ length project.now.nodes }
 {
     let nodes = project.nodes.as_slice().len() as u32;
     let links = project.links.as_slice().len() as u32;
+    lateral_flows(project, 0, laterals);
     let mut nets = Nets::with_room(alloc, nodes, links)?;
-    open_nets(project, law, &mut nets);
+    open_nets(project, law, laterals, &mut nets);
     Ok(nets)
 }
 
 // Makes a state in which nothing has happened the opening state.
-fn open_nets(project: &Project, law: &HydraulicLaw, nets: &mut Nets)
+fn open_nets(project: &Project, law: &HydraulicLaw, laterals: &[i128], nets: &mut Nets)
     requires project { IsReady project.now }
     requires law { law.now.hydraulics ≡ hydraulics_of project.now }
+    requires laterals { laterals.now ≡ laterals_at project.now (pos 0) }
     requires nets { nets.old ≡ resting (length project.now.nodes) (length project.now.links) }
     ensures { nets.new ≡ opening project.now }
 {
-    let nodes = project.nodes.as_slice();
     let links = project.links.as_slice();
-    open_heads(nodes, nets.heads.as_mut_slice());
+    open_heads(project, nets.heads.as_mut_slice());
     open_flows(links, nets.flows.as_mut_slice());
-    open_nodes(project, nets.nodes.as_mut_slice());
+    open_nodes(project, laterals, nets.nodes.as_mut_slice());
     sum_flows(law, nets);
 }
 
 // Sets the initial head of every node, in µm.
-fn open_heads(nodes: &[Node], heads: &mut [i64])
-    requires nodes { All NodeInRange nodes.now }
-    requires heads { length heads.old ≡ length nodes.now }
-    ensures { heads.new ≡ list_of (λ n. opening_head (node_of nodes.now n)) (length nodes.now) }
+fn open_heads(project: &Project, heads: &mut [i64])
+    requires project { IsReady project.now }
+    requires heads { length heads.old ≡ length project.now.nodes }
+    ensures { heads.new ≡ list_of (opening_head project.now) (length project.now.nodes) }
 {
-    for n in 0..nodes.len() {
-        heads[n] = open_head(nodes, n);
+    let count = project.nodes.as_slice().len() as u32;
+    for n in 0..count {
+        heads[n as usize] = open_head(project, n);
     }
 }
 
 // The initial head of a node, in µm.
-fn open_head(nodes: &[Node], n: usize) -> i64
-    requires nodes { All NodeInRange nodes.now }
-    requires n { n < length nodes.now }
-    ensures { result ≡ opening_head (node_of nodes.now n) }
+fn open_head(project: &Project, n: u32) -> i64
+    requires project { IsReady project.now }
+    requires n { n < length project.now.nodes }
+    ensures { result ≡ opening_head project.now n }
 {
-    let node = &nodes[n];
-    kind_head(&node.kind, node.invert, node.y0)
+    let node = &project.nodes.as_slice()[n as usize];
+    kind_head(&node.kind, node.invert, node.y0, node_stage(project, n, 0))
 }
 
 // The initial head of a node of this kind, in µm.
-fn kind_head(kind: &NodeKind, invert: i64, y0: i64) -> i64
+fn kind_head(kind: &NodeKind, invert: i64, y0: i64, stage: i64) -> i64
     requires invert { IsElevation invert }
     requires y0 { IsDepth y0 }
-    ensures { result ≡ kind_head kind.now invert y0 }
+    ensures { result ≡ kind_head kind.now invert y0 stage }
 {
     match kind {
-        NodeKind::Outfall { stage, .. } => invert.max(stage_level(stage)),
+        NodeKind::Outfall { .. } => invert.max(stage),
         NodeKind::Junction { .. } | NodeKind::Storage { .. } => invert + y0,
-    }
-}
-
-// The stage of an outfall, in µm; only a fixed one is built.
-fn stage_level(stage: &Stage) -> i64
-    ensures { result ≡ level_of stage.now }
-{
-    match stage {
-        Stage::Fixed(level) => *level,
-        Stage::Free | Stage::Normal | Stage::Tidal(_) | Stage::Series(_) => 0,
     }
 }
 
@@ -122,46 +116,39 @@ fn kind_flow(kind: &LinkKind) -> i64
 }
 
 // Sets what the nodes have of their own at the beginning.
-fn open_nodes(project: &Project, fixed: &mut [NodeFixed])
+fn open_nodes(project: &Project, laterals: &[i128], fixed: &mut [NodeFixed])
     requires project { IsReady project.now }
+    requires laterals { laterals.now ≡ laterals_at project.now (pos 0) }
     requires fixed { length fixed.old ≡ length project.now.nodes }
     ensures { fixed.new ≡ list_of (opening_node project.now) (length project.now.nodes) }
 {
     let count = project.nodes.as_slice().len() as u32;
     for n in 0..count {
-        fixed[n as usize] = open_node(project, n);
+        fixed[n as usize] = open_node(project, laterals, n);
     }
 }
 
 // What a node has of its own at the beginning: its lateral inflow in cm³/s and its stage in µm.
-fn open_node(project: &Project, n: u32) -> NodeFixed
+fn open_node(project: &Project, laterals: &[i128], n: u32) -> NodeFixed
     requires project { IsReady project.now }
+    requires laterals { laterals.now ≡ laterals_at project.now (pos 0) }
     requires n { n < length project.now.nodes }
     ensures { result ≡ opening_node project.now n }
 {
     NodeFixed {
         h_old: 0,
         net_old: 0,
-        lateral: lateral_flow(project, n, 0),
-        stage: node_stage(project, n),
+        lateral: lateral_here(laterals, n),
+        stage: node_stage(project, n, 0),
         dt: 0,
     }
 }
 
-// The stage of a node, in µm; only outfalls have one.
-pub(crate) fn node_stage(project: &Project, n: u32) -> i64
-    requires n { n < length project.now.nodes }
-    ensures { result ≡ stage_of (node_of project.now.nodes n).kind }
+// The lateral inflow of a node, in cm³/s, of the list of all.
+pub(crate) fn lateral_here(laterals: &[i128], n: u32) -> i64
+    requires n { n < length laterals.now }
+    requires flow { IsFlow (number laterals.now n) }
+    ensures { result ≡ number laterals.now n }
 {
-    kind_stage(&project.nodes.as_slice()[n as usize].kind)
-}
-
-// The stage of a node of this kind, in µm.
-fn kind_stage(kind: &NodeKind) -> i64
-    ensures { result ≡ stage_of kind.now }
-{
-    match kind {
-        NodeKind::Outfall { stage, .. } => stage_level(stage),
-        NodeKind::Junction { .. } | NodeKind::Storage { .. } => 0,
-    }
+    laterals[n as usize] as i64
 }

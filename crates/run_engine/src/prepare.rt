@@ -2,29 +2,42 @@
 ghost use Rattle.std.specs.Prelude.{◌≡◌, ◌<◌, length};
 ghost use Rattle.link_eval.specs.Hydraulics.{hydraulics_of, law_of, mid_area_at};
 ghost use Rattle.fixed_num.specs.Ranges.{IsStepLength, IsFlow};
+ghost use Rattle.time_series.specs.LateralFlow.{IsRunMoment};
 ghost use Rattle.trial_model.specs.Fits.{Fits, FlowsFit, HeadsFit, node_fixed_at};
 ghost use Rattle.fixed_num.specs.Lists.{number, list_of};
 ghost use Rattle.run_engine.specs.Ready.{IsReady};
-ghost use Rattle.run_engine.specs.Amounts.{AreAmounts, HaveLaterals};
+ghost use Rattle.run_engine.specs.Amounts.{AreAmounts, HaveLaterals, laterals_at};
 ghost use Rattle.run_engine.specs.States.{link_start, node_start, prepared, project_law};
 
-use crate::opening::node_stage;
+use crate::opening::lateral_here;
 use link_eval::HydraulicLaw;
 use net_types::Project;
 use phase_law::{LinkFixed, NodeFixed, PhaseLaw};
-use time_series::lateral_flow;
+use time_series::{lateral_flows, node_stage};
 use trial_model::Nets;
 
-// Makes a state ready for the trials of a step of this length in ms: the flows, heads and net inflows of the state stay
-// the same over the trials, beside the lateral inflows and stages at the step's end.
-pub(crate) fn prepare(project: &Project, law: &HydraulicLaw, dt: i64, nets: &mut Nets)
+// Makes a state ready for the trials of a step that finishes at this moment and has this length, both in ms: the flows,
+// heads and net inflows of the state stay the same over the trials, beside the lateral inflows and stages at the
+// step's end. There is a place for the lateral inflow of each node.
+pub(crate) fn prepare(
+    project: &Project,
+    law: &HydraulicLaw,
+    finish: i64,
+    dt: i64,
+    laterals: &mut [i128],
+    nets: &mut Nets,
+)
     requires project { IsReady project.now }
     requires law { law.now.hydraulics ≡ hydraulics_of project.now }
     requires fits { Fits (project_law project.now) nets.old }
+    requires finish { IsRunMoment project.now finish }
     requires dt { IsStepLength dt }
-    ensures nets { nets.new ≡ prepared project.now dt nets.old }
+    requires places { length laterals.old ≡ length project.now.nodes }
+    ensures nets { nets.new ≡ prepared project.now finish dt nets.old }
     ensures fits { Fits (project_law project.now) nets.new }
+    ensures places { length laterals.new ≡ length project.now.nodes }
 {
+    lateral_flows(project, finish, laterals);
     let heads = nets.heads.as_slice();
     let flows = nets.flows.as_slice();
     let inflows = nets.inflows.as_slice();
@@ -32,7 +45,9 @@ pub(crate) fn prepare(project: &Project, law: &HydraulicLaw, dt: i64, nets: &mut
     prepare_links(law, dt, heads, flows, nets.links.as_mut_slice());
     prepare_nodes(
         project,
+        finish,
         dt,
+        laterals,
         heads,
         inflows,
         outflows,
@@ -78,26 +93,32 @@ fn middle_area(law: &HydraulicLaw, link: u32, heads: &[i64]) -> i64
     law.mid_area(link, heads[near as usize], heads[far as usize])
 }
 
-// Sets what stays the same for every node over a step of this length.
+// Sets what stays the same for every node over a step that finishes at this moment and has this length.
 fn prepare_nodes(
     project: &Project,
+    finish: i64,
     dt: i64,
+    laterals: &[i128],
     heads: &[i64],
     inflows: &[i64],
     outflows: &[i64],
     nodes: &mut [NodeFixed],
 )
     requires project { IsReady project.now }
+    requires finish { IsRunMoment project.now finish }
+    requires laterals { laterals.now ≡ laterals_at project.now finish }
     requires heads { length heads.now ≡ length project.now.nodes }
     requires inflows { AreAmounts (length project.now.nodes) inflows.now }
     requires outflows { AreAmounts (length project.now.nodes) outflows.now }
     requires nodes { HaveLaterals (length project.now.nodes) nodes.old }
     ensures { nodes.new ≡ list_of
-        (node_start project.now heads.now inflows.now outflows.now nodes.old dt) (length project.now.nodes) }
+        (node_start project.now heads.now inflows.now outflows.now nodes.old finish dt) (length project.now.nodes) }
 {
     let count = project.nodes.as_slice().len() as u32;
     for n in 0..count {
-        nodes[n as usize] = node_start(project, n, dt, heads, inflows, outflows, nodes);
+        nodes[n as usize] = node_start(
+            project, n, finish, dt, laterals, heads, inflows, outflows, nodes,
+        );
     }
 }
 
@@ -105,7 +126,9 @@ fn prepare_nodes(
 fn node_start(
     project: &Project,
     n: u32,
+    finish: i64,
     dt: i64,
+    laterals: &[i128],
     heads: &[i64],
     inflows: &[i64],
     outflows: &[i64],
@@ -113,19 +136,21 @@ fn node_start(
 ) -> NodeFixed
     requires project { IsReady project.now }
     requires n { n < length project.now.nodes }
+    requires finish { IsRunMoment project.now finish }
+    requires laterals { laterals.now ≡ laterals_at project.now finish }
     requires heads { length heads.now ≡ length project.now.nodes }
     requires inflows { AreAmounts (length project.now.nodes) inflows.now }
     requires outflows { AreAmounts (length project.now.nodes) outflows.now }
     requires nodes { length nodes.now ≡ length project.now.nodes }
     requires last { IsFlow (node_fixed_at nodes.now n).lateral }
-    ensures { result ≡ node_start project.now heads.now inflows.now outflows.now nodes.now dt n }
+    ensures { result ≡ node_start project.now heads.now inflows.now outflows.now nodes.now finish dt n }
 {
     let place = n as usize;
     NodeFixed {
         h_old: heads[place],
         net_old: nodes[place].lateral + inflows[place] - outflows[place],
-        lateral: lateral_flow(project, n, 0),
-        stage: node_stage(project, n),
+        lateral: lateral_here(laterals, n),
+        stage: node_stage(project, n, finish),
         dt,
     }
 }

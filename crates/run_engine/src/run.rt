@@ -1,27 +1,27 @@
 // A run of a project by one worker.
-ghost use Rattle.std.specs.Prelude.{◌≡◌, ◌+◌, ◌-◌, ◌<◌, ◌≤◌, IfOk, Ok};
+ghost use Rattle.std.specs.Prelude.{◌≡◌, ◌+◌, true, false, IfOk, Ok};
 ghost use Rattle.continuity.specs.Account.{Balances};
 ghost use Rattle.fault_ports.specs.Causes.{HasCause};
 ghost use Rattle.fault_ports.specs.Output.{Puts};
 ghost use Rattle.project_check.specs.Faultless.{IsFaultless};
-ghost use Rattle.run_engine.specs.Progress.{IsAt};
+ghost use Rattle.run_engine.specs.Progress.{IsAt, IsGoingAt};
 ghost use Rattle.run_engine.specs.Report.{report_of};
 ghost use Rattle.run_engine.specs.Ready.{IsBuilt};
-ghost use Rattle.run_engine.specs.Times.{steps_of};
+ghost use Rattle.run_engine.specs.States.{steps_of};
 
 use crate::begin::{open_sums, zeros};
+use crate::kept::Kept;
 use crate::one_step::one_step;
 use crate::opening::open_state;
 use crate::output::put_report;
-use crate::times::steps;
+use crate::times::goes_on;
 use continuity::RunAccount;
 use fault_ports::{Failed, Sink};
 use link_eval::HydraulicLaw;
-use net_types::{List, OutOfMemory, Project, StepAccount};
+use net_types::{OutOfMemory, Project, StepAccount};
 use report_writer::RunCounts;
 use std::alloc::Global;
 use std::marker::Model;
-use summaries::Summaries;
 use trial_model::Nets;
 
 /// Why a run stopped before its end.
@@ -38,12 +38,7 @@ pub enum RunFault {
 pub struct Run {
     project: Project,
     law: HydraulicLaw,
-    nets: Nets,
-    before: Nets,
-    floods: List<i128>,
-    sums: Summaries,
-    total: RunAccount,
-    counts: RunCounts,
+    kept: Kept,
 }
 
 impl Model for Run {
@@ -54,14 +49,14 @@ impl Model for Run {
 
     ghost view = { λ s. record {
       project = s.project;
-      nets = s.nets;
-      total = s.total.total;
-      nodes = s.sums.nodes;
-      links = s.sums.links;
-      counts = s.counts;
+      nets = s.kept.nets;
+      total = s.kept.total.total;
+      nodes = s.kept.sums.nodes;
+      links = s.kept.sums.links;
+      counts = s.kept.counts;
     } };
 
-    ghost invariant = { λ s. IsKept s.project s.law.hydraulics s.nets s.before s.floods s.sums s.total s.counts };
+    ghost invariant = { λ s. IsKept s.project s.law.hydraulics s.kept };
 }
 
 /// Opens the run of a project at its first state. The only error is want of memory.
@@ -75,15 +70,16 @@ pub fn open_run(alloc: Global, project: Project) -> Result<Run, OutOfMemory>
     let law = HydraulicLaw::build(alloc, &project)?;
     let nodes = project.nodes.as_slice().len() as u32;
     let links = project.links.as_slice().len() as u32;
-    let nets = open_state(alloc, &project, &law)?;
+    let mut laterals = zeros(alloc, nodes)?;
+    let nets = open_state(alloc, &project, &law, laterals.as_mut_slice())?;
     let before = Nets::with_room(alloc, nodes, links)?;
     let floods = zeros(alloc, nodes)?;
     let sums = open_sums(alloc, &project, &nets, &floods)?;
-    Ok(Run {
-        project,
-        law,
+    let kept = Kept {
+        moment: 0,
         nets,
         before,
+        laterals,
         floods,
         sums,
         total: RunAccount::new(),
@@ -92,7 +88,8 @@ pub fn open_run(alloc: Global, project: Project) -> Result<Run, OutOfMemory>
             trials: 0,
             unsettled: 0,
         },
-    })
+    };
+    Ok(Run { project, law, kept })
 }
 
 impl Run {
@@ -103,9 +100,9 @@ impl Run {
         ensures done { result ≡ Ok tt }
         ensures unwritten { rpt.new ≡ rpt.old }
         ensures project { self.new.project ≡ self.old.project }
-        ensures at { IsAt self.new (steps_of self.new.project.options) }
+        ensures at { IsAt self.new (steps_of self.new.project) }
     {
-        for _ in 0..self.steps_left() {
+        while self.goes_on() {
             self.add_step();
         }
         Ok(())
@@ -115,13 +112,13 @@ impl Run {
     ///
     /// Source: this project's profile.
     pub fn finish<W: Sink>(&self, rpt: &mut W) -> Result<(), Failed>
-        requires { IsAt self.now (steps_of self.now.project.options) }
+        requires { IsAt self.now (steps_of self.now.project) }
         ensures bytes { Puts (W.held rpt.old) (W.held rpt.new)
             (report_of self.now.project) result }
         ensures cause { HasCause (W.faults rpt.old) (W.faults rpt.new) result }
     {
-        let total = self.total.total();
-        put_report(rpt, &self.project, &total, &self.sums, &self.counts)
+        let total = self.kept.total.total();
+        put_report(rpt, &self.project, &total, &self.kept.sums, &self.kept.counts)
     }
 
     /// The account of the steps so far, in mm³. It balances.
@@ -129,7 +126,7 @@ impl Run {
         ensures value { result ≡ self.now.total }
         ensures balance { Balances result }
     {
-        self.total.total()
+        self.kept.total.total()
     }
 
     /// The least time in ms, up to an hour, that a wave took through a link in the last trial.
@@ -138,43 +135,31 @@ impl Run {
     pub fn least_travel_time(&self) -> i64
         ensures { result ≡ self.now.nets.least }
     {
-        self.nets.least
+        self.kept.nets.least
     }
 
     /// How many steps and trials there were so far, and how many of the steps did not settle.
     pub fn counts(&self) -> RunCounts
         ensures { result ≡ self.now.counts }
     {
-        self.counts
+        self.kept.counts
     }
 
-    // How many steps are left.
-    fn steps_left(&self) -> u64
-        ensures value { result ≡ steps_of self.now.project.options - self.now.counts.steps }
-        ensures most { self.now.counts.steps + result ≡ steps_of self.now.project.options }
-        ensures few { self.now.counts.steps + result ≤ 50_000_000 }
+    // Whether there is a step left.
+    fn goes_on(&self) -> bool
         ensures at { IsAt self.now self.now.counts.steps }
+        ensures more { result ≡ true → IsGoingAt self.now.project self.now.counts.steps }
+        ensures last { result ≡ false → self.now.counts.steps ≡ steps_of self.now.project }
     {
-        steps(&self.project.options) - self.counts.steps
+        self.kept.counts.steps < 50_000_000 && goes_on(&self.project.options, self.kept.moment)
     }
 
     // Makes one step more.
     fn add_step(&mut self)
-        requires left { self.old.counts.steps < steps_of self.old.project.options }
-        requires few { self.old.counts.steps < 50_000_000 }
+        requires { IsGoingAt self.old.project self.old.counts.steps }
         ensures project { self.new.project ≡ self.old.project }
         ensures steps { self.new.counts.steps ≡ self.old.counts.steps + 1 }
-        ensures at { IsAt self.new (self.old.counts.steps + 1) }
     {
-        one_step(
-            &self.project,
-            &self.law,
-            &mut self.before,
-            &mut self.nets,
-            self.floods.as_mut_slice(),
-            &mut self.sums,
-            &mut self.total,
-            &mut self.counts,
-        );
+        one_step(&self.project, &self.law, &mut self.kept);
     }
 }

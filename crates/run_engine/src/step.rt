@@ -3,34 +3,41 @@ ghost use Rattle.std.specs.Prelude.{◌≡◌, ◌≤◌, length};
 ghost use Rattle.continuity.specs.StepOf.{IsBelowTops};
 ghost use Rattle.link_eval.specs.Hydraulics.{hydraulics_of};
 ghost use Rattle.fixed_num.specs.Ranges.{IsStepLength};
+ghost use Rattle.time_series.specs.LateralFlow.{IsRunMoment};
 ghost use Rattle.trial_model.specs.Fits.{Fits};
 ghost use Rattle.trial_model.specs.Trial.{SumsOf};
 ghost use Rattle.run_engine.specs.Kept.{HaveSameCounts};
 ghost use Rattle.run_engine.specs.Ready.{IsReady};
-ghost use Rattle.run_engine.specs.States.{next_state, project_law, step_end};
+ghost use Rattle.run_engine.specs.States.{next_nets, project_law, step_end};
 
 use crate::prepare::prepare;
 use link_eval::HydraulicLaw;
 use net_types::{List, Project};
 use trial_model::{Nets, StepEnd, step_alone};
 
-// Makes the step of this length in ms from a state to the next, and keeps the state in `before`.
+// Makes the step that finishes at this moment and has this length, both in ms, from a state to the next, and keeps the
+// state in `before`. There is a place for the lateral inflow of each node.
 pub(crate) fn make_step(
     project: &Project,
     law: &HydraulicLaw,
+    finish: i64,
     dt: i64,
+    laterals: &mut [i128],
     before: &mut Nets,
     nets: &mut Nets,
 ) -> StepEnd
     requires project { IsReady project.now }
     requires law { law.now.hydraulics ≡ hydraulics_of project.now }
+    requires finish { IsRunMoment project.now finish }
     requires dt { IsStepLength dt }
+    requires places { length laterals.old ≡ length project.now.nodes }
     requires room { Fits (project_law project.now) before.old }
     requires fits { Fits (project_law project.now) nets.old }
     requires tops { IsBelowTops (hydraulics_of project.now) nets.old }
     ensures before { before.new ≡ nets.old }
-    ensures nets { nets.new ≡ next_state project.now dt nets.old }
-    ensures end { result ≡ step_end project.now dt nets.old }
+    ensures nets { nets.new ≡ next_nets project.now finish dt nets.old }
+    ensures end { result ≡ step_end project.now finish dt nets.old }
+    ensures places { length laterals.new ≡ length project.now.nodes }
 
     // What holds of the end and of the next state.
     ensures few { result.trials ≤ 20 }
@@ -39,7 +46,7 @@ pub(crate) fn make_step(
     ensures tops { IsBelowTops (hydraulics_of project.now) nets.new }
 {
     keep(nets, before);
-    prepare(project, law, dt, nets);
+    prepare(project, law, finish, dt, laterals, nets);
     step_alone(law, nets, project.options.max_trials)
 }
 

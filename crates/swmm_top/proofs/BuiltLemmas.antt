@@ -1,12 +1,9 @@
 -- The test of what is built tells whether it is.
-use Rattle.std.proofs.Common.{◌≡◌, Bool, true, false, not, ◌&&◌, List, [], ◌∷◌, Option, Some, None, refl}
+use Rattle.std.proofs.Common.{◌≡◌, Bool, true, false, not, ◌&&◌, List, [], ◌∷◌, ℤ, pos, refl}
 use Rattle.std.specs.Bool.{Decides, ⊤}
 use Rattle.std.specs.List.{All, list_all}
-use Rattle.std.specs.Option.{is_none}
-use Rattle.std.proofs.lemmas.Bool.Decides.{Decides-and, Decides-by_and, Decides-like}
+use Rattle.std.proofs.lemmas.Bool.Decides.{Decides-and, Decides-by_and, Decides-int_eq, Decides-like}
 use Rattle.link_eval.specs.Built.{HasHydraulics, IsBuiltLink, IsConduitKind}
-use Rattle.net_types.specs.declared.inflows.DryFlow.{DryFlow}
-use Rattle.net_types.specs.declared.inflows.Inflow.{Inflow}
 use Rattle.net_types.specs.declared.network.Link.{Link}
 use Rattle.net_types.specs.declared.network.LinkKind.{LinkKind}
 use Rattle.net_types.specs.declared.network.LinkKind.TheVariants.{Conduit, Pump, Orifice, Weir}
@@ -18,9 +15,8 @@ use Rattle.net_types.specs.declared.network.Stage.TheVariants.{Free, Normal, Fix
 use Rattle.net_types.specs.declared.project.Project.{Project}
 use Rattle.node_update.specs.Network.{HasNodeLaws, IsBuiltKind, IsFixedStage}
 use Rattle.run_engine.specs.Ready.{IsBuilt}
-use Rattle.time_series.specs.LateralFlow.{HasBuiltInflows, IsConstant}
-use Rattle.swmm_top.specs.Built.{are_built_inflows, are_built_links, are_built_nodes, is_built}
-use Rattle.swmm_top.specs.Built.{is_built_kind, is_built_link, is_built_node, is_constant}
+use Rattle.swmm_top.specs.Built.{are_built_links, are_built_nodes, are_built_steps, is_built}
+use Rattle.swmm_top.specs.Built.{is_built_kind, is_built_link, is_built_node}
 use Rattle.swmm_top.specs.Built.{is_conduit, is_empty, is_fixed}
 
 yes : Decides true ⊤
@@ -68,34 +64,33 @@ link_told link = conduit_told link.kind
 links_told : (project : Project) → Decides (are_built_links project) (All IsBuiltLink project.links)
 links_told project = all_told is_built_link IsBuiltLink link_told project.links
 
--- ---- inflows
-none_told : {A : Type 0} (o : Option A) → Decides (is_none o) (o ≡ None)
-none_told (Some x) = ((λ h. let never : ⊥ = cc in absurd never), (λ e. let never : ⊥ = cc in absurd never))
-none_told None = ((λ h. refl), (λ e. refl))
-
-inflow_told : (inflow : Inflow) → Decides (is_constant inflow) (IsConstant inflow)
-inflow_told inflow =
-    Decides-like {P = (inflow.series ≡ None) × (inflow.pattern ≡ None)} (is_constant inflow)
-    (λ p. record { series = p.0; pattern = p.1 }) (λ h. (h.series, h.pattern))
-    (Decides-and _ _ (none_told inflow.series) (none_told inflow.pattern))
-
-empty_told : (dry : List DryFlow) → Decides (is_empty dry) (dry ≡ [])
+-- ---- steps
+empty_told : {A : Type 0} (xs : List A) → Decides (is_empty xs) (xs ≡ [])
 empty_told [] = ((λ h. refl), (λ e. refl))
 empty_told (x ∷ xs) = ((λ h. let never : ⊥ = cc in absurd never), (λ e. let never : ⊥ = cc in absurd never))
 
-inflows_told : (project : Project) → Decides (are_built_inflows project) (HasBuiltInflows project)
-inflows_told project =
-    Decides-like {P = (project.dry ≡ []) × All IsConstant project.inflows} (are_built_inflows project)
-    (λ p. record { each = p.1; no_dry = p.0 }) (λ h. (h.no_dry, h.each))
-    (Decides-and _ _ (empty_told project.dry) (all_told is_constant IsConstant inflow_told project.inflows))
+-- no control rules, no runoff and no steps of variable length
+HasBuiltSteps : Project → Type 0
+HasBuiltSteps project = (project.rules ≡ []) × ((project.subs ≡ []) × (project.options.variable6 ≡ pos 0))
+
+steps_told : (project : Project) → Decides (are_built_steps project) (HasBuiltSteps project)
+steps_told project =
+    Decides-and _ _ (empty_told project.rules)
+    (Decides-and _ _ (empty_told project.subs) (Decides-int_eq project.options.variable6 (pos 0)))
 
 -- ---- the whole
-parts : (project : Project) → IsBuilt project → HasNodeLaws project × (All IsBuiltLink project.links × HasBuiltInflows project)
-parts project h = (h.hydraulics.nodes, (h.hydraulics.links, h.inflows))
+parts : (project : Project) → IsBuilt project → HasNodeLaws project × (All IsBuiltLink project.links × HasBuiltSteps project)
+parts project h = (h.hydraulics.nodes, (h.hydraulics.links, (h.no_rules, (h.no_runoff, h.constant_steps))))
 
 pub built_told : (project : Project) → Decides (is_built project) (IsBuilt project)
 unfolding is_built
 built_told project =
-    Decides-like {P = HasNodeLaws project × (All IsBuiltLink project.links × HasBuiltInflows project)} (is_built project)
-    (λ p. record { hydraulics = record { nodes = p.0; links = p.1.0 }; inflows = p.1.1 }) (parts project)
-    (Decides-and _ _ (nodes_told project) (Decides-and _ _ (links_told project) (inflows_told project)))
+    Decides-like {P = HasNodeLaws project × (All IsBuiltLink project.links × HasBuiltSteps project)} (is_built project)
+    (λ p. record {
+      hydraulics = record { nodes = p.0; links = p.1.0 };
+      no_rules = p.1.1.0;
+      no_runoff = p.1.1.1.0;
+      constant_steps = p.1.1.1.1;
+    })
+    (parts project)
+    (Decides-and _ _ (nodes_told project) (Decides-and _ _ (links_told project) (steps_told project)))

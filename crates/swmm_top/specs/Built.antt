@@ -1,10 +1,8 @@
--- Whether all is built that a run needs of a project: junctions and outfalls of fixed stage without ponding,
--- conduits, and constant inflows (User's Manual, appendix D).
-use Rattle.std.specs.Prelude.{Bool, true, false, not, ◌&&◌, List, [], ◌∷◌}
+-- Whether all is built that a run needs of a project: junctions and outfalls of fixed stage without ponding, conduits,
+-- and neither control rules nor runoff nor steps of variable length (User's Manual, appendix D).
+use Rattle.std.specs.Prelude.{Bool, true, false, not, ◌&&◌, List, [], ◌∷◌, pos}
 use Rattle.std.specs.List.{list_all}
-use Rattle.std.specs.Option.{is_none}
-use Rattle.net_types.specs.declared.inflows.DryFlow.{DryFlow}
-use Rattle.net_types.specs.declared.inflows.Inflow.{Inflow}
+use Rattle.std.specs.Ordering.{int_eq}
 use Rattle.net_types.specs.declared.network.Link.{Link}
 use Rattle.net_types.specs.declared.network.LinkKind.{LinkKind}
 use Rattle.net_types.specs.declared.network.LinkKind.TheVariants.{Conduit, Pump, Orifice, Weir}
@@ -41,13 +39,10 @@ is_conduit (Weir notch crest cd6 flap contractions) = false
 abbrev pub is_built_link : Link → Bool
 is_built_link link = is_conduit link.kind
 
--- ---- inflows
-abbrev pub is_constant : Inflow → Bool
-is_constant inflow = is_none inflow.series && is_none inflow.pattern
-
-abbrev pub is_empty : List DryFlow → Bool
+-- ---- steps
+abbrev pub is_empty : {A : Type 0} → List A → Bool
 is_empty [] = true
-is_empty (dry ∷ more) = false
+is_empty (x ∷ more) = false
 
 -- ---- the whole
 abbrev pub are_built_nodes : Project → Bool
@@ -56,8 +51,9 @@ are_built_nodes project = not project.options.ponding && list_all is_built_node 
 abbrev pub are_built_links : Project → Bool
 are_built_links project = list_all is_built_link project.links
 
-abbrev pub are_built_inflows : Project → Bool
-are_built_inflows project = is_empty project.dry && list_all is_constant project.inflows
+abbrev pub are_built_steps : Project → Bool
+are_built_steps project =
+    is_empty project.rules && (is_empty project.subs && int_eq project.options.variable6 (pos 0))
 
 unfoldable pub is_built : Project → Bool
-is_built project = are_built_nodes project && (are_built_links project && are_built_inflows project)
+is_built project = are_built_nodes project && (are_built_links project && are_built_steps project)

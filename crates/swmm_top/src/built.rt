@@ -1,11 +1,11 @@
 // Whether all is built that a run needs of a project.
 ghost use Rattle.std.specs.Prelude.{◌≡◌};
 ghost use Rattle.std.specs.List.{list_all};
-ghost use Rattle.swmm_top.specs.Built.{are_built_inflows, are_built_links, are_built_nodes};
+ghost use Rattle.swmm_top.specs.Built.{are_built_links, are_built_nodes, are_built_steps};
 ghost use Rattle.swmm_top.specs.Built.{is_built, is_built_kind, is_built_link};
-ghost use Rattle.swmm_top.specs.Built.{is_built_node, is_conduit, is_constant, is_fixed};
+ghost use Rattle.swmm_top.specs.Built.{is_built_node, is_conduit, is_fixed};
 
-use net_types::{Inflow, Link, LinkKind, Node, NodeKind, Project, Stage};
+use net_types::{Link, LinkKind, Node, NodeKind, Project, Stage};
 
 /// Whether all is built that a run needs of a project: a run of another is refused. `built_is_told` says that
 /// the test of `specs/Built.antt` tells exactly that.
@@ -21,7 +21,7 @@ pub fn is_built(project: &Project) -> bool
     if !are_built_links(project) {
         return false;
     }
-    are_built_inflows(project)
+    are_built_steps(project)
 }
 
 // Whether the laws of all nodes are built.
@@ -53,20 +53,14 @@ fn all_links(links: &[Link]) -> bool
     links.iter().all(|link| is_built_link(link))
 }
 
-// Whether all inflows are built.
-fn are_built_inflows(project: &Project) -> bool
-    ensures { result ≡ are_built_inflows project.now }
+// Whether the project has neither control rules nor runoff nor steps of variable length.
+fn are_built_steps(project: &Project) -> bool
+    ensures { result ≡ are_built_steps project.now }
 {
-    match project.dry.as_slice() {
-        [] => all_inflows(project.inflows.as_slice()),
-        [_, ..] => false,
+    match (project.rules.as_slice(), project.subs.as_slice()) {
+        ([], []) => project.options.variable6 == 0,
+        _ => false,
     }
-}
-
-fn all_inflows(inflows: &[Inflow]) -> bool
-    ensures { result ≡ list_all is_constant inflows.now }
-{
-    inflows.iter().all(|inflow| is_constant(inflow))
 }
 
 fn is_built_node(node: &Node) -> bool
@@ -101,10 +95,4 @@ fn is_conduit(kind: &LinkKind) -> bool
     ensures { result ≡ is_conduit kind.now }
 {
     matches!(kind, LinkKind::Conduit { .. })
-}
-
-fn is_constant(inflow: &Inflow) -> bool
-    ensures { result ≡ is_constant inflow.now }
-{
-    inflow.series.is_none() && inflow.pattern.is_none()
 }

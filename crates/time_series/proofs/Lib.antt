@@ -2,4 +2,3 @@ pub mod SeriesLemmas
 pub mod SumLemmas
 pub mod AmountLemmas
 pub mod WalkLemmas
-pub mod ConstantLemmas

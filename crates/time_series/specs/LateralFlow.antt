@@ -1,11 +1,9 @@
 -- The lateral inflow of a node (User's Manual, sections [INFLOWS] and [DWF]; this project's profile).
-use Rattle.std.specs.Prelude.{◌≡◌, ℕ, ◌^◌, [], None, ℤ, pos, neg_ℤ, ◌+ℤ◌}
-use Rattle.std.specs.List.{All}
+use Rattle.std.specs.Prelude.{ℕ, ◌^◌, ℤ, pos, neg_ℤ, ◌+ℤ◌}
 use Rattle.calendar_steps.specs.Moment.{point_on}
 use Rattle.calendar_steps.specs.declared.point.CalendarPoint.{CalendarPoint}
 use Rattle.fixed_num.specs.Ranges.{cut_of, IsMoment}
 use Rattle.fixed_num.specs.Sums.{sum_over}
-use Rattle.net_types.specs.declared.inflows.Inflow.{Inflow}
 use Rattle.net_types.specs.declared.project.Project.{Project}
 use Rattle.time_series.specs.Inflows.{dry_at, inflow_at}
 
@@ -26,17 +24,3 @@ gross_lateral project node moment =
 -- the lateral inflow of a node, in cm³/s: that sum brought into 10^12 to either side
 abbrev pub lateral_at : Project → (node : ℕ) (moment : ℤ) → ℤ
 lateral_at project node moment = cut_of (gross_lateral project node moment) (neg_ℤ (pos (10 ^ 12))) (pos (10 ^ 12))
-
--- ---- constant inflows an inflow is constant: it has neither a series nor a pattern
-pub record IsConstant (inflow : Inflow) : Type 0 where
-  pub series : inflow.series ≡ None
-  pub pattern : inflow.pattern ≡ None
-
--- a run has only constant inflows so far
-pub record HasBuiltInflows (project : Project) : Type 0 where
-  pub each : All IsConstant project.inflows
-  pub no_dry : project.dry ≡ []
-
--- then the lateral inflow of a node is the same at all moments
-abbrev pub lateral_of : Project → (node : ℕ) → ℤ
-lateral_of project node = lateral_at project node (pos 0)

@@ -9,7 +9,6 @@
 
 mod amounts;
 mod lateral;
-mod laws;
 mod patterns;
 mod series;
 mod stages;
@@ -18,7 +17,6 @@ mod tests;
 mod walk;
 
 pub use lateral::lateral_flow;
-pub use laws::constant_inflows_stay;
 pub use patterns::pattern_factor;
 pub use series::value_between;
 pub use stages::node_stage;

@@ -1,28 +1,12 @@
--- The parts are the texts of the section.
-use Rattle.std.proofs.Common.{rules, to_z-of_z, FitsSigned, w64}
+-- Two pieces, one after the other.
+use Rattle.fault_ports.proofs.OutputLemmas.{puts_after, prefix_stays}
 use Rattle.report_writer.specs.ReportSections.{options_section}
 use Rattle.report_writer.proofs.head.put_options.Goals as goal
 
-pub returns-clause-bytes : goal.returns-clause-bytes
+pub returns-in-Ok-clause-bytes : goal.returns-in-Ok-clause-bytes
 unfolding options_section
-returns-clause-bytes g c =
-    let start : FitsSigned w64 c.args.options.now.start = search rules in
-    let finish : FitsSigned w64 c.args.options.now.finish = search rules in
-    let step : FitsSigned w64 c.args.options.now.step_ms = search rules in
-    let report : FitsSigned w64 c.args.options.now.report_ms = search rules in
-    simp (
-      to_z-of_z,
-      start,
-      finish,
-      step,
-      report,
-      c.name_of.ensures,
-      c.date_bytes-start_date.ensures,
-      c.time_bytes-start_time.ensures,
-      c.date_bytes-end_date.ensures,
-      c.time_bytes-end_time.ensures,
-      c.format.ensures.text,
-      c.as_bytes.ensures.value,
-      c.format-2.ensures.text,
-      c.as_bytes-2.ensures.value,
-    ) at c.put_parts.ensures.bytes
+returns-in-Ok-clause-bytes g c = puts_after _ _ _ _ _ _ c.in-Ok.ensures.bytes c.put_lengths.ensures.bytes
+
+pub returns-in-Err-clause-bytes : goal.returns-in-Err-clause-bytes
+unfolding options_section
+returns-in-Err-clause-bytes g c = prefix_stays _ _ _ _ c.in-Err.ensures.bytes

@@ -3,14 +3,12 @@ use Rattle.std.proofs.lemmas.Int.{to_z-of_z}
 use Rattle.run_engine.specs.Results.{account_at}
 use Rattle.run_engine.proofs.KeptLemmas.{account_here, states_step}
 use Rattle.run_engine.proofs.StateLemmas.{floods_more}
-use Rattle.run_engine.proofs.RunLemmas.{run_options}
 use Rattle.run_engine.proofs.one_step.add_account.Goals as goal
 
 pub account_step-account-requires-clause-step : goal.account_step-account-requires-clause-step
 account_step-account-requires-clause-step c =
-    let fits : FitsSigned w64 c.length-dt.result = search rules in
-    simp (to_z-of_z, fits)
-    (states_step c.args.project.now c.args.law.now.hydraulics c.args.k c.args.before.now c.args.nets.now c.length-dt.result c.requires.law c.requires.before c.requires.next c.length-dt.ensures.value)
+    simp (to_z-of_z, c.ranges.dt)
+    (states_step c.args.project.now c.args.law.now.hydraulics c.args.k c.args.before.now c.args.nets.now c.args.dt c.requires.law c.requires.before c.requires.next c.requires.length)
 
 pub account_step-account-requires-clause-floods : goal.account_step-account-requires-clause-floods
 account_step-account-requires-clause-floods c =
@@ -19,15 +17,11 @@ account_step-account-requires-clause-floods c =
 pub returns : goal.returns
 returns c =
     let project = c.args.project.now in
-    let fits : FitsSigned w64 c.length-dt.result = search rules in
-    let value = simp (to_z-of_z, fits) at c.account_step-account.ensures.value in
-    let here = account_here project c.args.law.now.hydraulics c.args.k c.args.before.now c.args.nets.now c.length-dt.result c.account_step-account.result c.requires.law c.requires.before c.requires.next c.length-dt.ensures.value value in
+    let value = simp (to_z-of_z, c.ranges.dt) at c.account_step-account.ensures.value in
+    let here = account_here project c.args.law.now.hydraulics c.args.k c.args.before.now c.args.nets.now c.args.dt c.account_step-account.result c.requires.law c.requires.before c.requires.next c.requires.length value in
     record {
       total = record {
         steps = c.add.ensures.steps ∙ ap (λ (n : ℕ). n + 1) c.requires.total.steps;
         total = c.add.ensures.total (account_at project) c.requires.total.total (here ∙ ap (account_at project) (sym c.requires.total.steps));
       };
     }
-
-pub length-dt-requires-clause-options : goal.length-dt-requires-clause-options
-length-dt-requires-clause-options c = run_options c.args.project.now c.requires.project

@@ -2,11 +2,9 @@ use Rattle.std.proofs.Common.{rules, ◌∙◌, ◌+◌, ℕ, FitsSigned, w64, l
 use Rattle.std.proofs.lemmas.Int.{to_z-of_z}
 use Rattle.link_eval.specs.Hydraulics.{hydraulics_of}
 use Rattle.run_engine.specs.Results.{floods_at}
-use Rattle.run_engine.specs.States.{state}
-use Rattle.run_engine.specs.Times.{moment_of}
+use Rattle.run_engine.specs.States.{moment_at, nets_at}
 use Rattle.run_engine.proofs.LawLemmas.{law_nodes, law_links}
 use Rattle.run_engine.proofs.SumsLemmas.{flow_at, head_at, floods_count, inverts_count}
-use Rattle.run_engine.proofs.RunLemmas.{run_options}
 use Rattle.run_engine.proofs.one_step.add_state.Goals as goal
 
 pub add_state-requires-clause-heads : goal.add_state-requires-clause-heads
@@ -32,20 +30,16 @@ returns c =
     let project = c.args.project.now in
     let sums = c.requires.sums in
     let added = c.add_state.ensures in
-    let fits : FitsSigned w64 c.moment-moment.result = search rules in
-    let summaries = simp (to_z-of_z, fits) at added.summaries in
+    let summaries = simp (to_z-of_z, c.ranges.moment) at added.summaries in
     record {
       sums = record {
         good = added.figures;
         states = added.states ∙ ap (λ (n : ℕ). n + 1) sums.states;
         inverts = added.inverts ∙ sums.inverts;
         links = added.links ∙ sums.links;
-        summaries = summaries (state project) (floods_at project) (moment_of project.options) sums.summaries
-            (ap (state project) sums.states ∙ sym c.requires.now.same)
+        summaries = summaries (nets_at project) (floods_at project) (moment_at project) sums.summaries
+            (ap (nets_at project) sums.states ∙ sym c.requires.now.same)
             (ap (floods_at project) sums.states ∙ sym c.requires.floods.same)
-            (ap (moment_of project.options) sums.states ∙ sym c.moment-moment.ensures.value);
+            (ap (moment_at project) sums.states ∙ sym c.requires.moment);
       };
     }
-
-pub moment-moment-requires-clause-options : goal.moment-moment-requires-clause-options
-moment-moment-requires-clause-options c = run_options c.args.project.now c.requires.project

@@ -24,9 +24,9 @@ pub returns-clause-nets : goal.returns-clause-nets
 returns-clause-nets c =
     let links = simp (c.as_slice-heads.ensures, c.as_slice-flows.ensures, to_z-of_z, c.ranges.dt) at c.prepare_links.ensures in
     let nodes =
-    simp (c.as_slice-heads.ensures, c.as_slice-inflows.ensures, c.as_slice-outflows.ensures, c.as_mut_slice-2.ensures.value, to_z-of_z, c.ranges.dt)
+    simp (c.as_slice-heads.ensures, c.as_slice-inflows.ensures, c.as_slice-outflows.ensures, c.as_mut_slice-2.ensures.value, to_z-of_z, c.ranges.dt, c.ranges.finish)
     at c.prepare_nodes.ensures in
-    prepared_is c.args.project.now c.args.dt c.args.nets.now c.requires.law
+    prepared_is c.args.project.now c.args.finish c.args.dt c.args.nets.now c.requires.law
     (written_whole _ _ (c.prepare_links.auto.links ∙ ap length c.as_mut_slice.ensures.value) ∙ links)
     (written_whole _ _ (c.prepare_nodes.auto.nodes ∙ ap length c.as_mut_slice-2.ensures.value) ∙ nodes)
 

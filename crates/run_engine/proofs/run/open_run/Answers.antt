@@ -32,6 +32,7 @@ invariant_of-result c =
       room = c.in_ok-before.ensures.fits (project_law project)
           (law_nodes project ∙ sym (ap length c.as_slice.ensures))
           (law_links project ∙ sym (ap length c.as_slice-2.ensures));
+      lateral_room = c.in_ok-nets.ensures.places;
       flood_room = ap length zeros ∙ length-replicate (length project.nodes) (pos 0);
       summed = c.in_ok-sums.ensures;
       totalled = record { steps = ap (λ (running : Running). running.steps) c.new.ensures.value; total = c.new.ensures.total (account_at project) };

@@ -1,0 +1,21 @@
+// What a run keeps between two steps.
+use continuity::RunAccount;
+use net_types::List;
+use report_writer::RunCounts;
+use summaries::Summaries;
+use trial_model::Nets;
+
+// The state of a run and what its steps and states came to so far. The state before and the lateral inflows are room
+// for those of a step.
+#[derive(Debug, Drop)]
+pub(crate) struct Kept {
+    // the moment of the state, in ms since the start of the run
+    pub(crate) moment: i64,
+    pub(crate) nets: Nets,
+    pub(crate) before: Nets,
+    pub(crate) laterals: List<i128>,
+    pub(crate) floods: List<i128>,
+    pub(crate) sums: Summaries,
+    pub(crate) total: RunAccount,
+    pub(crate) counts: RunCounts,
+}
