@@ -1,5 +1,5 @@
 -- The moments of a run rise to its end, and so its steps are counted.
-use Rattle.std.proofs.Common.{◌≡◌, ◌∙◌, ℕ, zero, suc, ◌+◌, ◌<◌, ◌≤◌, Bool, true, false, if◌then◌else◌, ℤ, pos, ◌+ℤ◌, ◌≤ℤ◌, ◌<ℤ◌}
+use Rattle.std.proofs.Common.{◌≡◌, ◌∙◌, ℕ, zero, suc, ◌+◌, ◌-◌, ◌<◌, ◌≤◌, Bool, true, false, if◌then◌else◌, ℤ, pos, ◌+ℤ◌, ◌≤ℤ◌, ◌<ℤ◌}
 use Rattle.std.proofs.Common.{refl, sym, ap, subst, inl, inr, arith}
 use Rattle.std.specs.Prelude.{int_lt}
 use Rattle.std.proofs.lemmas.Bool.{cases_lt}
@@ -13,37 +13,54 @@ use Rattle.run_engine.proofs.StateLemmas.{moment_more}
 use Rattle.run_engine.proofs.TimeLemmas.{finish_in, length_in}
 
 -- ---- how many of the first numbers have a property that is lost once and for all
-one_of : Bool → ℕ
+abbrev one_of : Bool → ℕ
 one_of b = if b then 1 else 0
 
+one_most : (b : Bool) → one_of b ≤ 1
+one_most true = omega arith
+one_most false = omega arith
+
 module _ (is : ℕ → Bool) where
-  all_below : (n : ℕ) → ((j : ℕ) → j < n → is j ≡ true) → below (λ k. one_of (is k)) n ≡ n
+  abbrev count : ℕ → ℕ
+  count n = below (λ k. one_of (is k)) n
+
+  more : (n m : ℕ) → count (n + suc m) ≡ count (n + m) + one_of (is (n + m))
+  more n m = let e : n + suc m ≡ suc (n + m) = omega arith in rw e refl
+
+  all_below : (n : ℕ) → ((j : ℕ) → j < n → is j ≡ true) → count n ≡ n
   all_below zero each = refl
   all_below (suc n) each =
-      let before = all_below n (λ j h. each j (omega (arith, h))) in
-      let here = ap one_of (each n (omega arith)) in
+      let before : count n ≡ n = all_below n (λ j h. each j (omega (arith, h))) in
+      let here : one_of (is n) ≡ 1 = ap (λ (b : Bool). one_of b) (each n (omega arith)) in
       omega (arith, before, here)
 
-  at_most : (n m : ℕ) → below (λ k. one_of (is k)) n ≤ below (λ k. one_of (is k)) (n + m)
-  at_most n zero = omega arith
-  at_most n (suc m) = omega (arith, at_most n m)
+  at_most : (n m : ℕ) → count n ≤ count (n + m)
+  at_most n zero = let e : n + 0 ≡ n = omega arith in rw e (omega arith)
+  at_most n (suc m) = omega (arith, at_most n m, more n m)
 
-  none_above : (n m : ℕ) → ((j : ℕ) → n ≤ j → is j ≡ false) → below (λ k. one_of (is k)) (n + m) ≡ below (λ k. one_of (is k)) n
-  none_above n zero each = refl
+  none_above : (n m : ℕ) → ((j : ℕ) → n ≤ j → is j ≡ false) → count (n + m) ≡ count n
+  none_above n zero each = let e : n + 0 ≡ n = omega arith in ap count e
   none_above n (suc m) each =
-      let before = none_above n m each in
-      let here = ap one_of (each (n + m) (omega arith)) in
-      omega (arith, before, here)
+      let before : count (n + m) ≡ count n = none_above n m each in
+      let here : one_of (is (n + m)) ≡ 0 = ap (λ (b : Bool). one_of b) (each (n + m) (omega arith)) in
+      omega (arith, more n m, before, here)
+
+-- ---- numbers
+no_earlier : (a b d : ℤ) → d ≤ℤ a → pos 0 ≤ℤ b → d ≤ℤ (a +ℤ b)
+no_earlier a b d h k = omega (arith, ints, h, k)
+
+ended : (moment d : ℤ) → int_lt moment d ≡ false → d ≤ℤ moment
+ended moment d past = grind (arith, ints, past)
+
+not_going : (moment d : ℤ) → d ≤ℤ moment → int_lt moment d ≡ false
+not_going moment d end = grind (arith, ints, end)
 
 -- ---- the moments of a run
-module _ {project : Project} (o : AreRunOptions project.options) where
+module _ (project : Project) (o : AreRunOptions project.options) where
   pub times : (k : ℕ) → IsRunTime project.options (moment_at project k)
   unfolding state
   times zero = record { between = record { from = omega (arith, ints); to = o.duration.from }; even = refl }
   times (suc k) = finish_in o (times k) (nets_at project k).least
-
-  no_earlier : (a b d : ℤ) → d ≤ℤ a → pos 0 ≤ℤ b → d ≤ℤ (a +ℤ b)
-  no_earlier a b d h k = omega (arith, ints, h, k)
 
   -- once at the end, a run stays there
   stays_here : (k : ℕ) → duration_of project.options ≤ℤ moment_at project k → duration_of project.options ≤ℤ moment_at project (k + 1)
@@ -52,39 +69,35 @@ module _ {project : Project} (o : AreRunOptions project.options) where
       (no_earlier (moment_at project k) (length_at project k) (duration_of project.options) end (length_in o (times k) (nets_at project k).least).least)
 
   stays : (k m : ℕ) → duration_of project.options ≤ℤ moment_at project k → duration_of project.options ≤ℤ moment_at project (k + m)
-  stays k zero end = end
-  stays k (suc m) end = stays_here (k + m) (stays k m end)
-
-  ended : (moment d : ℤ) → int_lt moment d ≡ false → d ≤ℤ moment
-  ended moment d no = grind (arith, ints, no)
-
-  not_going : (moment d : ℤ) → d ≤ℤ moment → int_lt moment d ≡ false
-  not_going moment d end = grind (arith, ints, end)
+  stays k zero end = let e : k ≡ k + 0 = omega arith in subst (λ (j : ℕ). duration_of project.options ≤ℤ moment_at project j) e end
+  stays k (suc m) end =
+      let e : k + m + 1 ≡ k + suc m = omega arith in
+      subst (λ (j : ℕ). duration_of project.options ≤ℤ moment_at project j) e (stays_here (k + m) (stays k m end))
 
   stays_ended : (k j : ℕ) → goes_on project.options (moment_at project k) ≡ false → k ≤ j → goes_on project.options (moment_at project j) ≡ false
-  stays_ended k j no below =
-      let past = stays k (j - k) (ended (moment_at project k) (duration_of project.options) no) in
-      let e : k + (j - k) ≡ j = omega (arith, below) in
-      not_going (moment_at project j) (duration_of project.options) (subst (λ (i : ℕ). duration_of project.options ≤ℤ moment_at project i) e past)
+  stays_ended k j past after =
+      let end = stays k (j - k) (ended (moment_at project k) (duration_of project.options) past) in
+      let e : k + (j - k) ≡ j = omega (arith, after) in
+      not_going (moment_at project j) (duration_of project.options) (subst (λ (i : ℕ). duration_of project.options ≤ℤ moment_at project i) e end)
 
 -- ---- the number of steps
-going : Project → ℕ → Bool
+abbrev going : Project → ℕ → Bool
 going project k = goes_on project.options (moment_at project k)
 
 counted : (project : Project) (k n : ℕ) → ((j : ℕ) → j < k → going project j ≡ true) → k ≤ n → k ≤ going_below project n
 unfolding going_below
 counted project k n each within =
-    let all = all_below (going project) k each in
+    let all : count (going project) k ≡ k = all_below (going project) k each in
     let e : k + (n - k) ≡ n = omega (arith, within) in
-    let most = subst (λ (i : ℕ). below (λ j. one_of (going project j)) k ≤ below (λ j. one_of (going project j)) i) e (at_most (going project) k (n - k)) in
+    let most : count (going project) k ≤ count (going project) n = subst (λ (i : ℕ). count (going project) k ≤ count (going project) i) e (at_most (going project) k (n - k)) in
     omega (arith, all, most)
 
 counted_all : (project : Project) (k n : ℕ) → ((j : ℕ) → j < k → going project j ≡ true) → ((j : ℕ) → k ≤ j → going project j ≡ false) → k ≤ n → k ≡ going_below project n
 unfolding going_below
 counted_all project k n each none within =
-    let all = all_below (going project) k each in
+    let all : count (going project) k ≡ k = all_below (going project) k each in
     let e : k + (n - k) ≡ n = omega (arith, within) in
-    let same = subst (λ (i : ℕ). below (λ j. one_of (going project j)) i ≡ below (λ j. one_of (going project j)) k) e (none_above (going project) k (n - k) none) in
+    let same : count (going project) n ≡ count (going project) k = subst (λ (i : ℕ). count (going project) i ≡ count (going project) k) e (none_above (going project) k (n - k) none) in
     omega (arith, all, same)
 
 counted_full : (project : Project) (n : ℕ) → ((j : ℕ) → j < n → going project j ≡ true) → n ≡ going_below project n
@@ -96,9 +109,11 @@ unfolding steps_of
 steps_within {project} {k} {moment} at = counted project k 50_000_000 at.going at.few
 
 -- a run that doesn't go on has made its steps
-pub steps_ended : {project : Project} {k : ℕ} {moment : ℤ} → AreRunOptions project.options → IsMomentAt project k moment → goes_on project.options (moment_at project k) ≡ false → k ≡ steps_of project
+pub steps_ended : {project : Project} {k : ℕ} {moment : ℤ} → AreRunOptions project.options → IsMomentAt project k moment → goes_on project.options moment ≡ false → k ≡ steps_of project
 unfolding steps_of
-steps_ended {project} {k} {moment} o at no = counted_all project k 50_000_000 at.going (λ j h. stays_ended o k j no h) at.few
+steps_ended {project} {k} {moment} o at past =
+    let here : goes_on project.options (moment_at project k) ≡ false = subst (λ (z : ℤ). goes_on project.options z ≡ false) at.same past in
+    counted_all project k 50_000_000 at.going (λ j h. stays_ended project o k j here h) at.few
 
 pub steps_full : {project : Project} {k : ℕ} {moment : ℤ} → IsMomentAt project k moment → k ≡ 50_000_000 → k ≡ steps_of project
 unfolding steps_of
@@ -107,16 +122,18 @@ steps_full {project} {k} {moment} at full = full ∙ counted_full project 50_000
 -- ---- one step more
 pub moment_next : {project : Project} {k : ℕ} {moment next : ℤ} → IsMomentAt project k moment → goes_on project.options moment ≡ true → k < 50_000_000
     → next ≡ moment_at project (k + 1) → IsRunTime project.options next → IsMomentAt project (k + 1) next
-moment_next {project} {k} {moment} {next} at goes few is range = record {
-  same = is;
-  range = range;
-  going = λ j h. elim (cases_lt j k) [
-    | inl less ↦ at.going j less
-    | inr past ↦ let e : j ≡ k = omega (arith, h, past) in rw (e, sym at.same) goes
-  ];
-  few = omega (arith, few);
-}
+moment_next {project} {k} {moment} {next} at goes few is range =
+    let here : going project k ≡ true = subst (λ (z : ℤ). goes_on project.options z ≡ true) at.same goes in
+    record {
+      same = is;
+      range = range;
+      going = λ j h. elim (cases_lt j k) [
+        | inl less ↦ at.going j less
+        | inr past ↦ let e : k ≡ j = omega (arith, h, past) in subst (λ (i : ℕ). going project i ≡ true) e here
+      ];
+      few = omega (arith, few);
+    }
 
 pub moment_first : (project : Project) → AreRunOptions project.options → IsMomentAt project 0 (pos 0)
 unfolding state
-moment_first project o = record { same = refl; range = times o 0; going = λ j h. absurd (omega (arith, h)); few = omega arith }
+moment_first project o = record { same = refl; range = times project o 0; going = λ j h. absurd (omega (arith, h)); few = omega arith }

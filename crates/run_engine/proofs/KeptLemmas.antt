@@ -49,7 +49,7 @@ kept_at {project} {h} {kept} is = record {
 -- two states that follow one another belong together
 pub states_step : (project : Project) (h : Hydraulics) (k : ℕ) (before after : Nets) (ms : ℤ) → h ≡ hydraulics_of project → IsStateAt project k before → IsStateAt project (k + 1) after
     → ms ≡ length_at project k → IsStepOf h before after ms
-states_step project h k before after ms law at next length = rw (law, at.same, next.same, length, state_more project k) (step_is project (moment_of project.options (k + 1)) (length_of project.options k) (state project k))
+states_step project h k before after ms law at next length = rw (law, at.same, next.same, length, nets_more project k) (step_is project (moment_at project (k + 1)) (length_at project k) (nets_at project k))
 
 -- the account of the step between them
 pub account_here : (project : Project) (h : Hydraulics) (k : ℕ) (before after : Nets) (ms : ℤ) (account : StepAccount) → h ≡ hydraulics_of project → IsStateAt project k before → IsStateAt project (k + 1) after
@@ -96,11 +96,11 @@ opening_floods project floods is = record {
 -- ---- the step from what a run keeps
 module _ {project : Project} {h : Hydraulics} {kept : Kept} (is : IsKept project h kept) where
   pub length_here : {dt : ℤ} → dt ≡ length_of project.options kept.moment kept.nets.least → dt ≡ length_at project kept.counts.steps
-  length_here e = e ∙ same kept.moment kept.nets is.clock.same is.now.same
+  length_here e = e ∙ same kept.counts.steps kept.moment kept.nets is.clock.same is.now.same
     where
-      same : {k : ℕ} (moment : ℤ) (nets : Nets) → moment ≡ moment_at project k → nets ≡ nets_at project k
+      same : (k : ℕ) (moment : ℤ) (nets : Nets) → moment ≡ moment_at project k → nets ≡ nets_at project k
           → length_of project.options moment nets.least ≡ length_at project k
-      same {k} moment nets p q = rw (p, q) refl
+      same k moment nets p q = rw (p, q) refl
 
   pub finish_here : {finish : ℤ} → finish ≡ kept.moment +ℤ length_of project.options kept.moment kept.nets.least → finish ≡ moment_at project (kept.counts.steps + 1)
   finish_here e = e ∙ sum is.clock.same (length_here refl) ∙ sym (moment_more project kept.counts.steps)

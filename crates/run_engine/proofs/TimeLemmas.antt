@@ -46,30 +46,34 @@ module _ {options : Options} (o : AreRunOptions options) where
 
   pub shortest_in : IsBetween (pos 0) (shortest_of options) options.step_ms
   unfolding shortest_of
-  shortest_in = min_between _ options.step_ms (at_least (pos 500) _ (not_below 500)) (from_zero o.step)
+  shortest_in =
+      let share = (unsigned_abs (duration_of options) + 99_999_999) / 100_000_000 in
+      min_between (int_max (pos 500) (pos (2 * share))) options.step_ms (at_least (pos 500) (pos (2 * share)) (not_below 500)) (from_zero o.step)
 
   pub shortest_even : IsEven (shortest_of options)
   unfolding shortest_of
-  shortest_even = even_min _ options.step_ms (even_max (pos 500) _ (even_twice 250) (even_twice _)) o.step_even
+  shortest_even =
+      let share = (unsigned_abs (duration_of options) + 99_999_999) / 100_000_000 in
+      even_min (int_max (pos 500) (pos (2 * share))) options.step_ms (even_max (pos 500) (pos (2 * share)) (even_twice 250) (even_twice share)) o.step_even
 
   wanted_at : (b : Bool) (n : ℕ)
       → IsBetween (pos 0) (if b then options.step_ms else cut_of (pos (2 * n)) (shortest_of options) options.step_ms) options.step_ms
   unfolding cut_of
   wanted_at true n = record { from = from_zero o.step; to = omega (arith, ints) }
-  wanted_at false n = min_between _ options.step_ms (at_least (pos (2 * n)) (shortest_of options) (not_below (2 * n))) (from_zero o.step)
+  wanted_at false n = min_between (int_max (pos (2 * n)) (shortest_of options)) options.step_ms (at_least (pos (2 * n)) (shortest_of options) (not_below (2 * n))) (from_zero o.step)
 
   even_at : (b : Bool) (n : ℕ) → IsEven (if b then options.step_ms else cut_of (pos (2 * n)) (shortest_of options) options.step_ms)
   unfolding cut_of
   even_at true n = o.step_even
-  even_at false n = even_min _ options.step_ms (even_max (pos (2 * n)) (shortest_of options) (even_twice n) shortest_even) o.step_even
+  even_at false n = even_min (int_max (pos (2 * n)) (shortest_of options)) options.step_ms (even_max (pos (2 * n)) (shortest_of options) (even_twice n) shortest_even) o.step_even
 
   pub wanted_in : (least : ℤ) → IsBetween (pos 0) (wanted_of options least) options.step_ms
   unfolding wanted_of
-  wanted_in least = wanted_at (int_eq options.variable6 (pos 0)) _
+  wanted_in least = wanted_at (int_eq options.variable6 (pos 0)) (unsigned_abs (options.variable6 *ℤ least) / 2_000_000)
 
   pub wanted_even : (least : ℤ) → IsEven (wanted_of options least)
   unfolding wanted_of
-  wanted_even least = even_at (int_eq options.variable6 (pos 0)) _
+  wanted_even least = even_at (int_eq options.variable6 (pos 0)) (unsigned_abs (options.variable6 *ℤ least) / 2_000_000)
 
   pub travel_fits : {least : ℤ} → IsBetween (pos 0) least (pos 3_600_000) → FitsSigned w64 (options.variable6 *ℤ least)
   travel_fits h = fits64 (within_mul (within_between o.variable) (within_between h)) tt
@@ -93,13 +97,13 @@ module _ {options : Options} (o : AreRunOptions options) where
           even = even_min (wanted_of options least) rest (wanted_even least) (even_rest (duration_of options) moment o.duration_even m.even);
         }
 
-    no_later : (a d : ℤ) → moment +ℤ int_min a (d -ℤ moment) ≤ℤ d
+    no_later : (a d : ℤ) → (moment +ℤ int_min a (d -ℤ moment)) ≤ℤ d
     no_later a d = omega (arith, ints, clamps)
 
     no_earlier : (a : ℤ) → pos 0 ≤ℤ moment → pos 0 ≤ℤ a → pos 0 ≤ℤ (moment +ℤ a)
     no_earlier a h k = omega (arith, ints, h, k)
 
-    below_end : moment +ℤ length_of options moment least ≤ℤ duration_of options
+    below_end : (moment +ℤ length_of options moment least) ≤ℤ duration_of options
     unfolding length_of
     below_end = no_later (wanted_of options least) (duration_of options)
 
@@ -110,4 +114,4 @@ module _ {options : Options} (o : AreRunOptions options) where
     }
 
     pub step_in : IsRunStep options (moment +ℤ length_of options moment least) (length_of options moment least)
-    step_in = record { finish = finish_in; length = length_in }
+    step_in = record { finish_in = finish_in; length_in = length_in }

@@ -51,5 +51,5 @@ pub record IsRunTime (options : Options) (moment : ℤ) : Type 0 where
 
 -- a step of a run in time: it finishes at a moment of the run, and has a length in range
 pub record IsRunStep (options : Options) (finish dt : ℤ) : Type 0 where
-  pub finish : IsRunTime options finish
-  pub length : IsStepLength dt
+  pub finish_in : IsRunTime options finish
+  pub length_in : IsStepLength dt

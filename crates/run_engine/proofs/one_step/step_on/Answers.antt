@@ -5,7 +5,7 @@ use Rattle.run_engine.proofs.RunLemmas.{run_moment}
 use Rattle.run_engine.proofs.one_step.step_on.Goals as goal
 
 pub make_step-requires-clause-finish : goal.make_step-requires-clause-finish
-make_step-requires-clause-finish c = simp (to_z-of_z, c.ranges.finish) (run_moment c.args.project.now c.requires.project c.requires.step.finish)
+make_step-requires-clause-finish c = simp (to_z-of_z, c.ranges.finish) (run_moment c.args.project.now c.requires.project c.requires.step.finish_in)
 
 pub returns-clause-next : goal.returns-clause-next
 returns-clause-next c =
