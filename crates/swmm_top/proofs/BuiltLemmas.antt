@@ -1,9 +1,10 @@
 -- The test of what is built tells whether it is.
-use Rattle.std.proofs.Common.{◌≡◌, Bool, true, false, not, ◌&&◌, List, [], ◌∷◌, Option, Some, None, refl}
+use Rattle.std.proofs.Common.{◌≡◌, Bool, true, false, not, ◌&&◌, List, [], ◌∷◌, Option, Some, None, refl, pos}
 use Rattle.std.specs.Bool.{Decides, ⊤}
 use Rattle.std.specs.List.{All, list_all}
 use Rattle.std.specs.Option.{is_none}
-use Rattle.std.proofs.lemmas.Bool.Decides.{Decides-and, Decides-by_and, Decides-like}
+use Rattle.std.specs.Ordering.{int_eq}
+use Rattle.std.proofs.lemmas.Bool.Decides.{Decides-and, Decides-by_and, Decides-int_eq, Decides-like}
 use Rattle.link_eval.specs.Built.{HasHydraulics, IsBuiltLink, IsConduitKind}
 use Rattle.net_types.specs.declared.inflows.DryFlow.{DryFlow}
 use Rattle.net_types.specs.declared.inflows.Inflow.{Inflow}
@@ -19,7 +20,8 @@ use Rattle.net_types.specs.declared.project.Project.{Project}
 use Rattle.node_update.specs.Network.{HasNodeLaws, IsBuiltKind, IsFixedStage}
 use Rattle.run_engine.specs.Ready.{IsBuilt}
 use Rattle.time_series.specs.LateralFlow.{HasBuiltInflows, IsConstant}
-use Rattle.swmm_top.specs.Built.{are_built_inflows, are_built_links, are_built_nodes, is_built}
+use Rattle.swmm_top.specs.Built.{IsRunnable, are_built_inflows, are_built_links, are_built_nodes, has_no_surface}
+use Rattle.swmm_top.specs.Built.{has_one_step, is_built}
 use Rattle.swmm_top.specs.Built.{is_built_kind, is_built_link, is_built_node, is_constant}
 use Rattle.swmm_top.specs.Built.{is_conduit, is_empty, is_fixed}
 
@@ -79,7 +81,7 @@ inflow_told inflow =
     (λ p. record { series = p.0; pattern = p.1 }) (λ h. (h.series, h.pattern))
     (Decides-and _ _ (none_told inflow.series) (none_told inflow.pattern))
 
-empty_told : (dry : List DryFlow) → Decides (is_empty dry) (dry ≡ [])
+empty_told : {A : Type 0} (items : List A) → Decides (is_empty items) (items ≡ [])
 empty_told [] = ((λ h. refl), (λ e. refl))
 empty_told (x ∷ xs) = ((λ h. let never : ⊥ = cc in absurd never), (λ e. let never : ⊥ = cc in absurd never))
 
@@ -90,12 +92,30 @@ inflows_told project =
     (Decides-and _ _ (empty_told project.dry) (all_told is_constant IsConstant inflow_told project.inflows))
 
 -- ---- the whole
-parts : (project : Project) → IsBuilt project → HasNodeLaws project × (All IsBuiltLink project.links × HasBuiltInflows project)
-parts project h = (h.hydraulics.nodes, (h.hydraulics.links, h.inflows))
+-- nothing else is there
+abbrev Bare : Project → Type 0
+Bare project = ((project.gages ≡ []) × (project.subs ≡ [])) × (project.options.variable6 ≡ pos 0)
 
-pub built_told : (project : Project) → Decides (is_built project) (IsBuilt project)
+bare_told : (project : Project) → Decides (has_no_surface project && has_one_step project) (Bare project)
+bare_told project = Decides-and _ _ (Decides-and _ _ (empty_told project.gages) (empty_told project.subs))
+    (Decides-int_eq project.options.variable6 (pos 0))
+
+abbrev Parts : Project → Type 0
+Parts project = HasNodeLaws project × (All IsBuiltLink project.links × (HasBuiltInflows project × Bare project))
+
+parts : (project : Project) → IsRunnable project → Parts project
+parts project h = (h.built.hydraulics.nodes, (h.built.hydraulics.links, (h.built.inflows, ((h.no_gages, h.no_subs), h.one_step))))
+
+whole : (project : Project) → Parts project → IsRunnable project
+whole project p = record {
+  built = record { hydraulics = record { nodes = p.0; links = p.1.0 }; inflows = p.1.1.0 };
+  no_gages = p.1.1.1.0.0;
+  no_subs = p.1.1.1.0.1;
+  one_step = p.1.1.1.1;
+}
+
+pub built_told : (project : Project) → Decides (is_built project) (IsRunnable project)
 unfolding is_built
 built_told project =
-    Decides-like {P = HasNodeLaws project × (All IsBuiltLink project.links × HasBuiltInflows project)} (is_built project)
-    (λ p. record { hydraulics = record { nodes = p.0; links = p.1.0 }; inflows = p.1.1 }) (parts project)
-    (Decides-and _ _ (nodes_told project) (Decides-and _ _ (links_told project) (inflows_told project)))
+    Decides-like {P = Parts project} (is_built project) (whole project) (parts project)
+    (Decides-and _ _ (nodes_told project) (Decides-and _ _ (links_told project) (Decides-and _ _ (inflows_told project) (bare_told project))))

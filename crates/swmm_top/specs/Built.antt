@@ -1,9 +1,9 @@
 -- Whether all is built that a run needs of a project: junctions and outfalls of fixed stage without ponding,
--- conduits, and constant inflows (User's Manual, appendix D).
-use Rattle.std.specs.Prelude.{Bool, true, false, not, ◌&&◌, List, [], ◌∷◌}
+-- conduits, constant inflows, no rain gages and subcatchments, and steps of one length (User's Manual, appendix D).
+use Rattle.std.specs.Prelude.{◌≡◌, Bool, true, false, not, ◌&&◌, List, [], ◌∷◌, pos}
+use Rattle.std.specs.Ordering.{int_eq}
 use Rattle.std.specs.List.{list_all}
 use Rattle.std.specs.Option.{is_none}
-use Rattle.net_types.specs.declared.inflows.DryFlow.{DryFlow}
 use Rattle.net_types.specs.declared.inflows.Inflow.{Inflow}
 use Rattle.net_types.specs.declared.network.Link.{Link}
 use Rattle.net_types.specs.declared.network.LinkKind.{LinkKind}
@@ -14,6 +14,7 @@ use Rattle.net_types.specs.declared.network.NodeKind.TheVariants.{Junction, Outf
 use Rattle.net_types.specs.declared.network.Stage.{Stage}
 use Rattle.net_types.specs.declared.network.Stage.TheVariants.{Free, Normal, Fixed, Tidal, Series}
 use Rattle.net_types.specs.declared.project.Project.{Project}
+use Rattle.run_engine.specs.Ready.{IsBuilt}
 
 -- ---- nodes
 abbrev pub is_fixed : Stage → Bool
@@ -45,9 +46,9 @@ is_built_link link = is_conduit link.kind
 abbrev pub is_constant : Inflow → Bool
 is_constant inflow = is_none inflow.series && is_none inflow.pattern
 
-abbrev pub is_empty : List DryFlow → Bool
+abbrev pub is_empty : {A : Type 0} → List A → Bool
 is_empty [] = true
-is_empty (dry ∷ more) = false
+is_empty (first ∷ more) = false
 
 -- ---- the whole
 abbrev pub are_built_nodes : Project → Bool
@@ -59,5 +60,19 @@ are_built_links project = list_all is_built_link project.links
 abbrev pub are_built_inflows : Project → Bool
 are_built_inflows project = is_empty project.dry && list_all is_constant project.inflows
 
+abbrev pub has_no_surface : Project → Bool
+has_no_surface project = is_empty project.gages && is_empty project.subs
+
+abbrev pub has_one_step : Project → Bool
+has_one_step project = int_eq project.options.variable6 (pos 0)
+
 unfoldable pub is_built : Project → Bool
-is_built project = are_built_nodes project && (are_built_links project && are_built_inflows project)
+is_built project = are_built_nodes project && (are_built_links project && (are_built_inflows project
+    && (has_no_surface project && has_one_step project)))
+
+-- what the test tells: the network and its inflows are built, and there is nothing else that a run would have to know
+pub record IsRunnable (project : Project) : Type 0 where
+  pub built : IsBuilt project
+  pub no_gages : project.gages ≡ []
+  pub no_subs : project.subs ≡ []
+  pub one_step : project.options.variable6 ≡ pos 0

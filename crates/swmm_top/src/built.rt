@@ -2,7 +2,7 @@
 ghost use Rattle.std.specs.Prelude.{◌≡◌};
 ghost use Rattle.std.specs.List.{list_all};
 ghost use Rattle.swmm_top.specs.Built.{are_built_inflows, are_built_links, are_built_nodes};
-ghost use Rattle.swmm_top.specs.Built.{is_built, is_built_kind, is_built_link};
+ghost use Rattle.swmm_top.specs.Built.{has_no_surface, has_one_step, is_built, is_built_kind, is_built_link};
 ghost use Rattle.swmm_top.specs.Built.{is_built_node, is_conduit, is_constant, is_fixed};
 
 use net_types::{Inflow, Link, LinkKind, Node, NodeKind, Project, Stage};
@@ -21,7 +21,13 @@ pub fn is_built(project: &Project) -> bool
     if !are_built_links(project) {
         return false;
     }
-    are_built_inflows(project)
+    if !are_built_inflows(project) {
+        return false;
+    }
+    if !has_no_surface(project) {
+        return false;
+    }
+    project.options.variable6 == 0
 }
 
 // Whether the laws of all nodes are built.
@@ -59,6 +65,16 @@ fn are_built_inflows(project: &Project) -> bool
 {
     match project.dry.as_slice() {
         [] => all_inflows(project.inflows.as_slice()),
+        [_, ..] => false,
+    }
+}
+
+// Whether there are neither rain gages nor subcatchments.
+fn has_no_surface(project: &Project) -> bool
+    ensures { result ≡ has_no_surface project.now }
+{
+    match project.gages.as_slice() {
+        [] => project.subs.as_slice().is_empty(),
         [_, ..] => false,
     }
 }
