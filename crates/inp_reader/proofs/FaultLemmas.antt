@@ -27,15 +27,16 @@ use Rattle.inp_forms.specs.Forms.{RowForm, Forms, form_reading, has_form, readin
 use Rattle.inp_forms.specs.Items.{values_of}
 use Rattle.inp_forms.specs.Values.{fault_of as item_fault}
 use Rattle.inp_forms.proofs.FormLemmas.{form_faults_in}
+use Rattle.inp_owners.specs.Owners.{owner_of}
 use Rattle.inp_owners.proofs.OwnerLemmas.{owned_faults_in}
 use Rattle.inp_forms.specs.declared.item.Objects.TheVariants as objects
 use Rattle.inp_hydrology.specs.Areas.{area_forms, areas_fault}
 use Rattle.inp_hydrology.specs.Evaporation.{evaporation_fault, evaporation_forms, no_name}
-use Rattle.inp_hydrology.specs.Gages.{gage_fault, gage_forms}
+use Rattle.inp_hydrology.specs.Gages.{gage_fault, gage_forms, gage_name}
 use Rattle.inp_hydrology.specs.Soil.{soil_fault, soil_forms}
-use Rattle.inp_hydrology.specs.Subcatchments.{sub_fault, sub_forms}
-use Rattle.inp_network.specs.Links.{link_fault, link_forms}
-use Rattle.inp_network.specs.Nodes.{node_fault, node_forms, node_names}
+use Rattle.inp_hydrology.specs.Subcatchments.{sub_fault, sub_forms, sub_name}
+use Rattle.inp_network.specs.Links.{link_fault, link_forms, link_name}
+use Rattle.inp_network.specs.Nodes.{node_fault, node_forms, node_name, node_names}
 use Rattle.inp_options.specs.OptionLines.{reading_of, setting_of, at_options, fault_of, is_options, option_fault}
 use Rattle.inp_options.specs.Options.{units_of}
 use Rattle.inp_options.proofs.LineLemmas.{on_option_lines}
@@ -281,8 +282,8 @@ unfolding network_fault
 network_long known before line h =
     none_of_both (both_of (both_of (node_fault known) (link_fault known)) (section_fault known)) (losses_fault known) before line
     (none_of_both (both_of (node_fault known) (link_fault known)) (section_fault known) before line
-    (none_of_both (node_fault known) (link_fault known) before line (form_long known node_forms _ before line h) (form_long known link_forms _ before line h))
-    (form_long known section_forms _ before line h)) (form_long known loss_forms _ before line h)
+    (none_of_both (node_fault known) (link_fault known) before line (form_long known node_forms node_name before line h) (form_long known link_forms link_name before line h))
+    (form_long known section_forms (owner_of known objects.Links section_forms) before line h)) (form_long known loss_forms (owner_of known objects.Conduits loss_forms) before line h)
 
 surface_long : (method : InfilKind) (known : Context) (before : List Line) (line : Line) → is_long line ≡ true → surface_fault method known before line ≡ []
 unfolding surface_fault
@@ -290,8 +291,8 @@ surface_long method known before line h =
     none_of_both (both_of (both_of (both_of (gage_fault known) (sub_fault known)) (areas_fault known)) (soil_fault method known)) (evaporation_fault known) before line
     (none_of_both (both_of (both_of (gage_fault known) (sub_fault known)) (areas_fault known)) (soil_fault method known) before line
     (none_of_both (both_of (gage_fault known) (sub_fault known)) (areas_fault known) before line
-    (none_of_both (gage_fault known) (sub_fault known) before line (form_long known gage_forms _ before line h) (form_long known sub_forms _ before line h))
-    (form_long known area_forms _ before line h)) (form_long known (soil_forms method) _ before line h)) (form_long known evaporation_forms no_name before line h)
+    (none_of_both (gage_fault known) (sub_fault known) before line (form_long known gage_forms gage_name before line h) (form_long known sub_forms sub_name before line h))
+    (form_long known area_forms (owner_of known objects.Subcatchments area_forms) before line h)) (form_long known (soil_forms method) (owner_of known objects.Subcatchments (soil_forms method)) before line h)) (form_long known evaporation_forms no_name before line h)
 
 read_long : (lines before : List Line) (line : Line) → is_long line ≡ true → read_fault lines before line ≡ []
 read_long lines before line h =

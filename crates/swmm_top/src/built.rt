@@ -3,9 +3,9 @@ ghost use Rattle.std.specs.Prelude.{◌≡◌};
 ghost use Rattle.std.specs.List.{list_all};
 ghost use Rattle.swmm_top.specs.Built.{are_built_inflows, are_built_links, are_built_nodes};
 ghost use Rattle.swmm_top.specs.Built.{has_no_surface, has_one_step, is_built, is_built_kind, is_built_link};
-ghost use Rattle.swmm_top.specs.Built.{is_built_node, is_conduit, is_constant, is_fixed};
+ghost use Rattle.swmm_top.specs.Built.{is_built_node, is_conduit, is_constant, is_empty, is_fixed};
 
-use net_types::{Inflow, Link, LinkKind, Node, NodeKind, Project, Stage};
+use net_types::{Inflow, Link, LinkKind, Node, NodeKind, Project, Stage, Sub};
 
 /// Whether all is built that a run needs of a project: a run of another is refused. `built_is_told` says that
 /// the test of `specs/Built.antt` tells exactly that.
@@ -74,7 +74,16 @@ fn has_no_surface(project: &Project) -> bool
     ensures { result ≡ has_no_surface project.now }
 {
     match project.gages.as_slice() {
-        [] => project.subs.as_slice().is_empty(),
+        [] => has_no_subs(project.subs.as_slice()),
+        [_, ..] => false,
+    }
+}
+
+fn has_no_subs(subs: &[Sub]) -> bool
+    ensures { result ≡ is_empty subs.now }
+{
+    match subs {
+        [] => true,
         [_, ..] => false,
     }
 }
