@@ -25,7 +25,7 @@ known_options =
     (codes "HEAD_TOLERANCE", option.HeadTolerance) ∷
     (codes "MAX_TRIALS", option.MaxTrials) ∷
     (codes "THREADS", option.Threads) ∷
-    (codes "VARIABLE_STEP", option.VariableStep) ∷
+    (codes "VARIABLE_STEP", option.Zero) ∷
     (codes "LENGTHENING_STEP", option.Zero) ∷
     (codes "MIN_SLOPE", option.Zero) ∷
     (codes "SKIP_STEADY_STATE", option.No) ∷

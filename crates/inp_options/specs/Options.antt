@@ -23,7 +23,7 @@ start_by latest = moment_of (unwrap_or latest.start_date default_day) (unwrap_or
 abbrev pub finish_by : Latest → ℤ
 finish_by latest = moment_of (unwrap_or latest.end_date (unwrap_or latest.start_date default_day)) (unwrap_or latest.end_time (pos 0))
 
--- the options by what is set, with the default of each; ponding isn't built
+-- the options by what is set, with the default of each; ponding and variable steps aren't built
 unfoldable pub options_by : FlowUnits → Latest → Options
 options_by units latest = record {
   units = units;
@@ -33,7 +33,7 @@ options_by units latest = record {
   report_ms = unwrap_or latest.report_ms (pos 900_000);
   wet_ms = unwrap_or latest.wet_ms (pos 300_000);
   step_ms = unwrap_or latest.step_ms (pos 20_000);
-  variable6 = unwrap_or latest.variable6 (pos 0);
+  variable6 = pos 0;
   ponding = false;
   damping = unwrap_or latest.damping Partial;
   limiter = unwrap_or latest.limiter Both;

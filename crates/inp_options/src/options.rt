@@ -73,7 +73,7 @@ fn options_by(units: FlowUnits, latest: &Latest) -> Options
         report_ms: within_or(latest.report_ms, 900_000),
         wet_ms: within_or(latest.wet_ms, 300_000),
         step_ms: within_or(latest.step_ms, 20_000),
-        variable6: within_or(latest.variable6, 0),
+        variable6: 0,
         ponding: false,
         damping: latest.damping.unwrap_or(Damping::Partial),
         limiter: latest.limiter.unwrap_or(Limiter::Both),

@@ -2,8 +2,7 @@
 use net_types::{Damping, FlowUnits, InfilKind, Limiter};
 
 /// What an option line without a fault sets (User's Manual, section [OPTIONS]). Dates are days from 1970-01-01, times and
-/// steps ms, the surface area mm², the tolerance µm,
-/// the part of the travel time millionths.
+/// steps ms, the surface area mm², the tolerance µm.
 #[derive(Clone, Copy, Debug)]
 pub enum Setting {
     Units(FlowUnits),
@@ -15,8 +14,6 @@ pub enum Setting {
     ReportStep(i64),
     WetStep(i64),
     RoutingStep(i64),
-    /// The part of the shortest travel time that a step takes at most; 0 for steps of one length.
-    VariableStep(i64),
     Inertia(Damping),
     NormalFlow(Limiter),
     MinArea(i64),

@@ -12,9 +12,9 @@ returns-clause-range c = let set = c.requires in record {
   wet_in = kept c.within_or-5.result (search rules) (c.within_or-5.ensures.range (pos 1_000) (pos 3_600_000) set.wet_ms_in (numeral_in tt tt));
   step_in = kept c.within_or-6.result (search rules) (c.within_or-6.ensures.range (pos 10) (pos 3_600_000) set.step_ms_in (numeral_in tt tt));
   step_even = kept_even c.within_or-6.result (search rules) (c.within_or-6.ensures.even set.step_ms_even refl);
-  area_in = kept c.within_or-8.result (search rules) (c.within_or-8.ensures.range (pos 10_000) (pos 10_000_000_000_000) set.min_area_in (numeral_in tt tt));
-  tolerance_in = kept c.within_or-9.result (search rules) (c.within_or-9.ensures.range (pos 1) (pos 1_000_000_000) set.tolerance_in (numeral_in tt tt));
+  area_in = kept c.within_or-7.result (search rules) (c.within_or-7.ensures.range (pos 10_000) (pos 10_000_000_000_000) set.min_area_in (numeral_in tt tt));
+  tolerance_in = kept c.within_or-8.result (search rules) (c.within_or-8.ensures.range (pos 1) (pos 1_000_000_000) set.tolerance_in (numeral_in tt tt));
   some_trials = c.trials_or.ensures.range.from;
   few_trials = c.trials_or.ensures.range.to;
-  variable_in = kept c.within_or-7.result (search rules) (c.within_or-7.ensures.range (pos 0) (pos 2_000_000) set.variable6_in (numeral_in tt tt));
+  variable_in = numeral_in tt tt;
 }
