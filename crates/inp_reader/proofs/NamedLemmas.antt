@@ -4,7 +4,6 @@ use Rattle.std.proofs.Common.{Result, Ok, Err, refl, ap, sym, ◌∙◌, subst, 
 use Rattle.std.specs.Bool.{⊤}
 use Rattle.std.proofs.lemmas.Bool.Decides.{nat_tests}
 use Rattle.std.proofs.lemmas.List.{map-append, length-map}
-use Rattle.net_types.specs.declared.faults.LineFault.{LineFault}
 use Rattle.inp_lines.specs.declared.fault.Fault.{Fault}
 use Rattle.inp_lines.specs.declared.line.Line.{Line}
 use Rattle.inp_lines.specs.declared.line.SectionName.{SectionName}
@@ -16,7 +15,7 @@ use Rattle.inp_lines.specs.Faults.{token_at, too_few_of}
 use Rattle.inp_lines.specs.Gather.{gather, records_in, faults_in, reading_at, record_at, fault_at}
 use Rattle.inp_lines.specs.Names.{is_repeat, with_first, with_name, firsts_after, defined, naming_of, naming_by, naming_among}
 use Rattle.fixed_num.specs.declared.constants.TheConstants.{RECORD_LIMIT}
-use Rattle.inp_lines.specs.Readings.{is_long, first_token, name_with_of, new_name_of, and_then, reading_from}
+use Rattle.inp_lines.specs.Readings.{is_long, first_token, new_name_of, and_then, reading_from}
 use Rattle.inp_lines.proofs.NameLemmas.{defined_none, defined_more, first_new}
 use Rattle.inp_forms.specs.declared.item.Item.{Item}
 use Rattle.inp_forms.specs.declared.item.Item.TheVariants.{Needed}
@@ -27,7 +26,7 @@ use Rattle.inp_forms.specs.Context.{Context}
 use Rattle.inp_forms.specs.Forms.{RowForm, Forms, form_name, form_reading, name_by, reading_by, row_name, row_reading}
 use Rattle.inp_forms.specs.Items.{items_of, least_of, values_of}
 use Rattle.inp_forms.specs.Laws.{MeanRecords}
-use Rattle.inp_forms.specs.Values.{found_of, value_of, wrong_of}
+use Rattle.inp_forms.specs.Values.{found_of, value_of}
 use Rattle.inp_forms.proofs.FormLemmas.{forms_mean, forms_mean_one}
 
 -- ---- names that are read one by one

@@ -1,15 +1,12 @@
 -- What the readers make of all lines, put together.
-use Rattle.std.proofs.Common.{◌≡◌, ◌∙◌, ◌++◌, [], ℕ, List, ap, subst, sym}
+use Rattle.std.proofs.Common.{◌≡◌, ◌∙◌, ◌++◌, [], ℕ, List, ap}
 use Rattle.net_types.specs.declared.faults.LineFault.{LineFault}
 use Rattle.net_types.specs.declared.hydrology.Gage.{Gage}
 use Rattle.net_types.specs.declared.hydrology.Sub.{Sub}
 use Rattle.net_types.specs.declared.inflows.Inflow.{Inflow}
 use Rattle.net_types.specs.declared.network.Link.{Link}
 use Rattle.net_types.specs.declared.network.Node.{Node}
-use Rattle.net_types.specs.declared.options.FlowUnits.{FlowUnits}
-use Rattle.net_types.specs.declared.options.InfilKind.{InfilKind}
 use Rattle.net_types.specs.declared.options.Options.{Options}
-use Rattle.net_types.specs.declared.project.Project.{Project}
 use Rattle.inp_lines.specs.declared.line.Line.{Line}
 use Rattle.inp_lines.specs.Faults.{cut}
 use Rattle.inp_lines.specs.Gather.{gather}
@@ -19,7 +16,7 @@ use Rattle.inp_lines.specs.Numbers.{numbers_of}
 use Rattle.inp_lines.specs.Order.{Rise}
 use Rattle.constant_inflows.specs.Inflows.{inflow_fault_at, inflows_of}
 use Rattle.inp_forms.specs.declared.known.Known.{Known}
-use Rattle.inp_forms.specs.Context.{Context, context_of}
+use Rattle.inp_forms.specs.Context.{context_of}
 use Rattle.inp_hydrology.specs.Gages.{gages_of}
 use Rattle.inp_network.specs.Nodes.{node_names, nodes_of}
 use Rattle.inp_options.specs.OptionLines.{option_fault}

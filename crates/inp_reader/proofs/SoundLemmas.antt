@@ -17,13 +17,13 @@ use Rattle.net_types.specs.declared.options.FlowUnits.{FlowUnits}
 use Rattle.net_types.specs.declared.options.InfilKind.{InfilKind}
 use Rattle.net_types.specs.declared.project.Project.{Project}
 use Rattle.net_types.specs.Ranges.{OptionsInRange, GageInRange, SubInRange, NodeInRange, LinkKindInRange, LinkInRange, SectionInRange}
-use Rattle.net_types.specs.Ranges.{SubAreasInRange, InfilInRange, IsOfKind, CurveInRange, SeriesInRange, PatternInRange, InflowInRange, DryFlowInRange, RuleInRange}
+use Rattle.net_types.specs.Ranges.{IsOfKind, CurveInRange, SeriesInRange, PatternInRange, InflowInRange, DryFlowInRange, RuleInRange}
 use Rattle.net_types.specs.Sound.{GageNames, SubNames, NodeNames, LinkKindNames, LinkNames, InflowNames, DryFlowNames, RuleNames, IsSound}
 use Rattle.inp_lines.specs.declared.line.Line.{Line}
 use Rattle.inp_lines.specs.declared.line.SectionName.{SectionName}
 use Rattle.inp_lines.specs.declared.line.SectionName.TheVariants as section
 use Rattle.inp_lines.specs.Faults.{token_at}
-use Rattle.inp_lines.specs.Names.{defined, number_in}
+use Rattle.inp_lines.specs.Names.{number_in}
 use Rattle.inp_lines.proofs.NameLemmas.{number_within}
 use Rattle.inp_values.specs.declared.quantities.Quantity.TheVariants.{Raw}
 use Rattle.inp_values.specs.Units.{unit_for}
@@ -34,12 +34,11 @@ use Rattle.constant_inflows.specs.Meaning.{IsInflow, IsNumberOr}
 use Rattle.constant_inflows.specs.Sections.{is_inflow_line}
 use Rattle.constant_inflows.proofs.InflowLemmas.{few_inflows, inflows_mean, inflows_one}
 use Rattle.inp_forms.specs.declared.item.Item.TheVariants.{Needed}
-use Rattle.inp_forms.specs.declared.item.Objects.{Objects}
 use Rattle.inp_forms.specs.declared.item.Objects.TheVariants as objects
 use Rattle.inp_forms.specs.declared.item.Value.{Value}
 use Rattle.inp_forms.specs.declared.item.What.TheVariants.{Name}
-use Rattle.inp_forms.specs.Context.{Context, is_link_of, object_number, that_is}
-use Rattle.inp_forms.specs.Forms.{RowForm, form_name}
+use Rattle.inp_forms.specs.Context.{is_link_of, object_number, that_is}
+use Rattle.inp_forms.specs.Forms.{RowForm}
 use Rattle.inp_hydrology.specs.declared.areas.OwnAreas.{OwnAreas}
 use Rattle.inp_hydrology.specs.declared.soil.OwnInfil.{OwnInfil}
 use Rattle.inp_hydrology.specs.Areas.{sub_of_areas, with_areas, with_own_areas}
@@ -64,8 +63,6 @@ use Rattle.inp_sections.proofs.SoundLemmas.{losses_sound, sections_sound}
 use Rattle.inp_reader.specs.Known.{context_in, known_in, method_of}
 use Rattle.inp_reader.specs.LineFaults.{line_faults}
 use Rattle.inp_reader.specs.Meaning.{Means}
-use Rattle.inp_reader.specs.Network.{MeansLinks}
-use Rattle.inp_reader.specs.Surface.{MeansSubs}
 use Rattle.inp_reader.proofs.MeaningLemmas.{NoFaults, no_faults}
 use Rattle.inp_reader.proofs.NamedLemmas.{AllBegin, BeginsWithName, as_many, defined_few}
 use Rattle.inp_reader.proofs.PlacedLemmas.{all_placed}

@@ -3,10 +3,8 @@ use Rattle.std.proofs.Common.{◌≡◌, Bool, true, false, not, ◌&&◌, List,
 use Rattle.std.specs.Bool.{Decides, ⊤}
 use Rattle.std.specs.List.{All, list_all}
 use Rattle.std.specs.Option.{is_none}
-use Rattle.std.specs.Ordering.{int_eq}
 use Rattle.std.proofs.lemmas.Bool.Decides.{Decides-and, Decides-by_and, Decides-int_eq, Decides-like}
-use Rattle.link_eval.specs.Built.{HasHydraulics, IsBuiltLink, IsConduitKind}
-use Rattle.net_types.specs.declared.inflows.DryFlow.{DryFlow}
+use Rattle.link_eval.specs.Built.{IsBuiltLink, IsConduitKind}
 use Rattle.net_types.specs.declared.inflows.Inflow.{Inflow}
 use Rattle.net_types.specs.declared.network.Link.{Link}
 use Rattle.net_types.specs.declared.network.LinkKind.{LinkKind}
@@ -18,7 +16,6 @@ use Rattle.net_types.specs.declared.network.Stage.{Stage}
 use Rattle.net_types.specs.declared.network.Stage.TheVariants.{Free, Normal, Fixed, Tidal, Series}
 use Rattle.net_types.specs.declared.project.Project.{Project}
 use Rattle.node_update.specs.Network.{HasNodeLaws, IsBuiltKind, IsFixedStage}
-use Rattle.run_engine.specs.Ready.{IsBuilt}
 use Rattle.time_series.specs.LateralFlow.{HasBuiltInflows, IsConstant}
 use Rattle.swmm_top.specs.Built.{IsRunnable, are_built_inflows, are_built_links, are_built_nodes, has_no_surface}
 use Rattle.swmm_top.specs.Built.{has_one_step, is_built}

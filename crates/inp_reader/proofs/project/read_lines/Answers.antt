@@ -1,6 +1,4 @@
-use Rattle.std.proofs.Common.{◌≡◌, ◌∙◌, ◌++◌, [], List, ap, subst, sym}
-use Rattle.net_types.specs.declared.options.Options.{Options}
-use Rattle.net_types.specs.Ranges.{OptionsInRange}
+use Rattle.std.proofs.Common.{◌≡◌, ◌∙◌, ◌++◌, [], ap, subst, sym}
 use Rattle.inp_lines.specs.Numbers.{numbers_of}
 use Rattle.constant_inflows.specs.Inflows.{inflows_of}
 use Rattle.inp_reader.specs.Meaning.{Means}
