@@ -1,0 +1,6 @@
+pub mod PushLemmas
+pub mod PairLemmas
+pub mod TimeLemmas
+pub mod GrowLemmas
+pub mod MeaningLemmas
+pub mod PatternLemmas
