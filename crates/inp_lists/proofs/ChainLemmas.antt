@@ -16,7 +16,7 @@ use Rattle.inp_lines.specs.Faults.{too_few_of}
 use Rattle.inp_lines.specs.Gather.{gather}
 use Rattle.inp_lines.specs.Names.{is_repeat, naming_among, with_first}
 use Rattle.inp_lines.proofs.GatherLemmas.{gather_push}
-use Rattle.inp_lines.proofs.NameLemmas.{defined_more, defined_none, first_known, first_new, apart_back}
+use Rattle.inp_lines.proofs.NameLemmas.{defined_more, defined_none, first_known, first_new}
 use Rattle.net_types.specs.declared.faults.FaultKind.TheVariants.{OverLimit}
 use Rattle.inp_lists.specs.Chains.{ChainForm, chain_fault, counts, fault_by, fault_in, fault_of, is_over, kept, kept_after}
 use Rattle.inp_lists.specs.Chains.{line_name, most_pairs, names_in, own_lines, size_at, size_in, with_line}

@@ -2,11 +2,12 @@
 use Rattle.std.proofs.Common.{◌≡◌, ◌∷◌, ◌++◌, [], ◌≤◌, ◌<◌, length, ℕ, ◌+◌, List, Bool, true, false, not}
 use Rattle.std.proofs.Common.{cond, Option, Some, None, refl, ap, ap₂, sym, ◌∙◌, arith, subst, ◌||◌, ◌&&◌, map, filter}
 use Rattle.std.proofs.Common.{bytes_eq, append_assoc, append-nil, length-append, sum_by, is_some, nat_le}
-use Rattle.std.specs.List.{All, AllZip, AllByRecursion}
+use Rattle.std.specs.Bool.{⊤}
+use Rattle.std.specs.List.{All, AllZip}
 use Rattle.std.proofs.lemmas.Bool.Decides.{nat_tests}
 use Rattle.std.proofs.lemmas.List.{map-append, length-map}
 use Rattle.std.proofs.lemmas.List.Elements.{filter-append, All-nil, All-cons}
-use Rattle.std.proofs.lemmas.List.Sums.{sum_by_push, sum_by-set}
+use Rattle.std.proofs.lemmas.List.Sums.{sum_by-cons, sum_by_push, sum_by-set}
 use Rattle.std.proofs.lemmas.Slice.Eq.{bytes_eq-Decides}
 use Rattle.fixed_num.specs.declared.constants.TheConstants.{RECORD_LIMIT}
 use Rattle.net_types.specs.declared.faults.LineFault.{LineFault}
@@ -16,14 +17,21 @@ use Rattle.inp_lines.specs.declared.line.SectionName.{SectionName}
 use Rattle.inp_lines.specs.Sources.{FaultsIn, OneOn}
 use Rattle.inp_lines.specs.Gather.{gather, fault_found, walk_fault}
 use Rattle.inp_lines.specs.Names.{is_repeat, naming_among, number_in, with_first}
-use Rattle.inp_lines.proofs.NameLemmas.{first_known, first_full, first_new, placed_any, apart_back}
-use Rattle.inp_lines.proofs.ZipLemmas.{left_nil, right_nil}
+use Rattle.inp_lines.proofs.NameLemmas.{first_known, first_full, first_new, placed_any}
 use Rattle.inp_lists.specs.Chains.{ChainForm, chain_fault, counts, fault_in, is_over, kept, line_name, most_pairs}
 use Rattle.inp_lists.specs.Chains.{names_in, own_lines, size_in}
-use Rattle.inp_lists.specs.Holding.{AreNamed, with_counted}
+use Rattle.inp_lists.specs.Holding.{AreNamed, IsApart}
 use Rattle.inp_lists.proofs.PlaceLemmas.{room_first, set_number, at_number, map_other}
 use Rattle.inp_lists.proofs.ChainLemmas.{IsCounted, counted_in, kept_by, kept_counted, kept_named, kept_none, kept_other}
 use Rattle.inp_lists.proofs.ChainLemmas.{fault_other, fault_same, names_none, names_push, named_none, named_push, own_other, own_push, own_same, size_none, size_push}
+
+left_nil : {A : Type 0} (xs ys : List A) → xs ++ ys ≡ [] → xs ≡ []
+left_nil [] ys h = refl
+left_nil (x ∷ xs) ys h = cc
+
+right_nil : {A : Type 0} (xs ys : List A) → xs ++ ys ≡ [] → ys ≡ []
+right_nil [] ys h = h
+right_nil (x ∷ xs) ys h = cc
 
 none_found : (line : Line) (fault : Option Fault) → fault_found line fault ≡ [] → fault ≡ None
 none_found line None h = refl
@@ -84,23 +92,28 @@ module _ {R S : Type 0} (form : ChainForm R S) where
   own_all P start step lines none name = own_from P step [] lines none (λ name. subst (λ l. P (own_lines name l)) (sym (kept_none form)) start) name
 
 -- ---- the names of lines
+-- a fact of each item of a list
+abbrev pub Each : {A : Type 0} → (A → Type 0) → List A → Type 0
+Each P [] = ⊤
+Each P (x ∷ xs) = P x × Each P xs
+
 -- a fact of all names of a list, with one name more
-all_push : {A : Type 0} (P : A → Type 0) (xs : List A) (x : A) → AllByRecursion P xs → P x → AllByRecursion P (xs ++ x ∷ [])
+all_push : {A : Type 0} (P : A → Type 0) (xs : List A) (x : A) → Each P xs → P x → Each P (xs ++ x ∷ [])
 all_push P [] x all one = (one, tt)
 all_push P (y ∷ xs) x all one = (all.0, all_push P xs x all.1 one)
 
-all_more : {A : Type 0} (P Q : A → Type 0) (xs : List A) → ((x : A) → P x → Q x) → AllByRecursion P xs → AllByRecursion Q xs
+all_more : {A : Type 0} (P Q : A → Type 0) (xs : List A) → ((x : A) → P x → Q x) → Each P xs → Each Q xs
 all_more P Q [] more all = tt
 all_more P Q (x ∷ xs) more all = (more x all.0, all_more P Q xs more all.1)
 
-all_first : (P : List ℕ → Type 0) (names : List (List ℕ)) (name : List ℕ) → AllByRecursion P names → P name → AllByRecursion P (with_first names name)
+all_first : (P : List ℕ → Type 0) (names : List (List ℕ)) (name : List ℕ) → Each P names → P name → Each P (with_first names name)
 all_first P names name all one = go (is_repeat names name) refl where
-  full : (b : Bool) → nat_le RECORD_LIMIT (length names) ≡ b → is_repeat names name ≡ false → AllByRecursion P (with_first names name)
-  full true k e = let limit : RECORD_LIMIT ≤ length names = grind (arith, nat_tests) in subst (AllByRecursion P) (sym (first_full names name limit)) all
-  full false k e = let room : length names < RECORD_LIMIT = grind (arith, nat_tests) in subst (AllByRecursion P) (sym (first_new names name e room)) (all_push P names name all one)
+  full : (b : Bool) → nat_le RECORD_LIMIT (length names) ≡ b → is_repeat names name ≡ false → Each P (with_first names name)
+  full true k e = let limit : RECORD_LIMIT ≤ length names = grind (arith, nat_tests) in subst (Each P) (sym (first_full names name limit)) all
+  full false k e = let room : length names < RECORD_LIMIT = grind (arith, nat_tests) in subst (Each P) (sym (first_new names name e room)) (all_push P names name all one)
 
-  go : (b : Bool) → is_repeat names name ≡ b → AllByRecursion P (with_first names name)
-  go true e = subst (AllByRecursion P) (sym (first_known names name e)) all
+  go : (b : Bool) → is_repeat names name ≡ b → Each P (with_first names name)
+  go true e = subst (Each P) (sym (first_known names name e)) all
   go false e = full (nat_le RECORD_LIMIT (length names)) refl e
 
 few_first : (names : List (List ℕ)) (name : List ℕ) → length names ≤ RECORD_LIMIT → length (with_first names name) ≤ RECORD_LIMIT
@@ -119,10 +132,10 @@ own_grows lines line name some = subst (λ l. 1 ≤ length l) (sym (own_push nam
 own_new : (lines : List Line) (line : Line) → 1 ≤ length (own_lines (line_name line) (lines ++ line ∷ []))
 own_new lines line = subst (λ l. 1 ≤ length l) (sym (own_same (line_name line) lines line refl)) (omega (arith, length-append (own_lines (line_name line) lines) (line ∷ [])))
 
-apart_from : (names : List (List ℕ)) (name : List ℕ) → is_repeat names name ≡ false → AllByRecursion (λ y. bytes_eq name y ≡ false) names
+apart_from : (names : List (List ℕ)) (name : List ℕ) → is_repeat names name ≡ false → IsApart name names
 apart_from [] name h = tt
 apart_from (x ∷ names) name h = go (bytes_eq name x) refl h (apart_from names name) where
-  go : (b : Bool) → bytes_eq name x ≡ b → (b || is_repeat names name) ≡ false → (is_repeat names name ≡ false → AllByRecursion (λ y. bytes_eq name y ≡ false) names) → (bytes_eq name x ≡ false) × AllByRecursion (λ y. bytes_eq name y ≡ false) names
+  go : (b : Bool) → bytes_eq name x ≡ b → (b || is_repeat names name) ≡ false → (is_repeat names name ≡ false → IsApart name names) → (bytes_eq name x ≡ false) × IsApart name names
   go true e f more = absurd (cc)
   go false e f more = (e, more f)
 
@@ -134,11 +147,11 @@ number_there names name e = go (number_in names name) refl where
 
 module _ {R S : Type 0} (form : ChainForm R S) where
   -- each name has a line
-  pub own_some : (lines : List Line) → AllByRecursion (λ name. 1 ≤ length (own_lines name (kept form lines))) (names_in (kept form lines))
-  own_some lines = kept_by form (λ lines. AllByRecursion (λ name. 1 ≤ length (own_lines name lines)) (names_in lines))
-      (subst (AllByRecursion (λ name. 1 ≤ length (own_lines name []))) (sym names_none) tt)
+  pub own_some : (lines : List Line) → Each (λ name. 1 ≤ length (own_lines name (kept form lines))) (names_in (kept form lines))
+  own_some lines = kept_by form (λ lines. Each (λ name. 1 ≤ length (own_lines name lines)) (names_in lines))
+      (subst (Each (λ name. 1 ≤ length (own_lines name []))) (sym names_none) tt)
       (λ before line all is one. let lines = kept form before in
-          subst (AllByRecursion (λ name. 1 ≤ length (own_lines name (lines ++ line ∷ [])))) (sym (names_push lines line))
+          subst (Each (λ name. 1 ≤ length (own_lines name (lines ++ line ∷ [])))) (sym (names_push lines line))
           (all_first (λ name. 1 ≤ length (own_lines name (lines ++ line ∷ []))) (names_in lines) (line_name line)
               (all_more (λ name. 1 ≤ length (own_lines name lines)) (λ name. 1 ≤ length (own_lines name (lines ++ line ∷ []))) (names_in lines) (own_grows lines line) all) (own_new lines line)))
       lines
@@ -177,18 +190,6 @@ module _ {R S : Type 0} (form : ChainForm R S) where
     sizes_push : (lines : List Line) (line : Line) → AreNamed lines → is_over (naming_among (names_in lines) (line_name line)) ≡ false → all_sizes (lines ++ line ∷ []) (with_first (names_in lines) (line_name line)) ≤ all_sizes lines (names_in lines) + form.size_of (own_lines (line_name line) lines) line
     unfolding all_sizes one_size
     sizes_push lines line are over = go (is_repeat (names_in lines) (line_name line)) refl where
-      names : List (List ℕ)
-      names = names_in lines
-
-      name : List ℕ
-      name = line_name line
-
-      f : List ℕ → ℕ
-      f = one_size lines
-
-      g : List ℕ → ℕ
-      g = one_size (lines ++ line ∷ [])
-
       go : (b : Bool) → is_repeat (names_in lines) (line_name line) ≡ b → all_sizes (lines ++ line ∷ []) (with_first (names_in lines) (line_name line)) ≤ all_sizes lines (names_in lines) + form.size_of (own_lines (line_name line) lines) line
       go true e =
           let at = number_there (names_in lines) (line_name line) e in
@@ -212,31 +213,33 @@ module _ {R S : Type 0} (form : ChainForm R S) where
     sum_map : (names : List (List ℕ)) (lines : List Line) → sum_by size (map (λ name. form.record_of name (own_lines name lines)) names) ≡ all_sizes lines names
     unfolding all_sizes one_size
     sum_map [] lines = refl
-    sum_map (x ∷ names) lines = ap (λ n. size (form.record_of x (own_lines x lines)) + n) (sum_map names lines)
+    sum_map (x ∷ names) lines = sum_by-cons size (form.record_of x (own_lines x lines)) (map (λ name. form.record_of name (own_lines name lines)) names)
+        ∙ (ap (λ n. size (form.record_of x (own_lines x lines)) + n) (sum_map names lines) ∙ sym (sum_by-cons (λ n. n) (one_size lines x) (map (one_size lines) names)))
+
+    none_small : all_sizes [] [] ≤ size_in form []
+    unfolding all_sizes
+    none_small = omega arith
+
+    size_step : (before : List Line) (line : Line) → all_sizes (kept form before) (names_in (kept form before)) ≤ size_in form (kept form before) → is_over (naming_among (names_in (kept form before)) (line_name line)) ≡ false → all_sizes (kept form before ++ line ∷ []) (names_in (kept form before ++ line ∷ [])) ≤ size_in form (kept form before ++ line ∷ [])
+    size_step before line few over =
+        let lines = kept form before in
+        let names = ap (all_sizes (lines ++ line ∷ [])) (names_push lines line) in
+        let push = sizes_push lines line (kept_named form before) over in
+        omega (arith, few, names, push, size_push form lines line)
 
     pub few_sizes : (lines : List Line) → sum_by size (map (λ name. form.record_of name (own_lines name (kept form lines))) (names_in (kept form lines))) ≤ most_pairs
     few_sizes lines =
-        let all = kept_by form (λ lines. all_sizes lines (names_in lines) ≤ size_in form lines)
-            (subst (λ names. all_sizes [] names ≤ size_in form []) (sym names_none) (none_small))
-            (λ before line few is one. step before line few one.name_room) lines in
-        omega (arith, few_pairs lines, all, sum_map (names_in (kept form lines)) (kept form lines)) where
-          none_small : all_sizes [] [] ≤ size_in form []
-          unfolding all_sizes
-          none_small = omega arith
-
-          step : (before : List Line) (line : Line) → all_sizes (kept form before) (names_in (kept form before)) ≤ size_in form (kept form before) → is_over (naming_among (names_in (kept form before)) (line_name line)) ≡ false → all_sizes (kept form before ++ line ∷ []) (names_in (kept form before ++ line ∷ [])) ≤ size_in form (kept form before ++ line ∷ [])
-          step before line few over =
-              let lines = kept form before in
-              let names = ap (all_sizes (lines ++ line ∷ [])) (names_push lines line) in
-              let push = sizes_push lines line (kept_named form before) over in
-              omega (arith, few, names, push, size_push form lines line)
+        let all : all_sizes (kept form lines) (names_in (kept form lines)) ≤ size_in form (kept form lines) = kept_by form (λ lines. all_sizes lines (names_in lines) ≤ size_in form lines)
+            (subst (λ names. all_sizes [] names ≤ size_in form []) (sym names_none) none_small)
+            (λ before line few is one. size_step before line few one.name_room) lines in
+        omega (arith, few_pairs lines, all, sum_map (names_in (kept form lines)) (kept form lines))
 
 -- a fact of each name and its record
 pub zip_map : {A B : Type 0} (P : A → B → Type 0) (f : A → B) (xs : List A) → ((x : A) → P x (f x)) → AllZip P xs (map f xs)
 zip_map P f [] each = tt
 zip_map P f (x ∷ xs) each = (each x, zip_map P f xs each)
 
-pub all_map : {A B : Type 0} (P : A → Type 0) (Q : B → Type 0) (f : A → B) (xs : List A) → ((x : A) → P x → Q (f x)) → AllByRecursion P xs → All Q (map f xs)
+pub all_map : {A B : Type 0} (P : A → Type 0) (Q : B → Type 0) (f : A → B) (xs : List A) → ((x : A) → P x → Q (f x)) → Each P xs → All Q (map f xs)
 all_map P Q f [] each all = All-nil Q
 all_map P Q f (x ∷ xs) each all = All-cons Q (f x) (map f xs) (each x all.0) (all_map P Q f xs each all.1)
 

@@ -1,6 +1,6 @@
 -- What the walk holds, one line on.
 use Rattle.std.proofs.Common.{◌≡◌, ◌∷◌, ◌++◌, [], ◌≤◌, ◌<◌, length, ℕ, ◌+◌, List, Bool, true, false, cond, map, set, get_or}
-use Rattle.std.proofs.Common.{Option, Some, None, is_some, refl, ap, ap₂, sym, ◌∙◌, arith, subst, bytes_eq, length-append}
+use Rattle.std.proofs.Common.{Option, Some, None, is_some, refl, ap, ap₂, sym, ◌∙◌, arith, subst, bytes_eq, length-append, Result, Ok, Err, IfOk}
 use Rattle.std.proofs.lemmas.List.{map-append, length-map}
 use Rattle.std.proofs.lemmas.Slice.Eq.{bytes_eq-Decides}
 use Rattle.fixed_num.specs.declared.constants.TheConstants.{RECORD_LIMIT}
@@ -69,7 +69,7 @@ module _ {R S : Type 0} (form : ChainForm R S) where
       let fresh = no_repeat (names_in lines) name none in
       let added = first_new (names_in lines) name fresh (room_first (names_in lines) name fresh over) in
       let own = are.named name fresh in
-      let placed = placed_none (bytes_eq name) 0 old.count (names_in lines) name (sym holds.count) none in
+      let placed = placed_none (bytes_eq name) 0 old.count (names_in lines) name (omega (arith, holds.count)) none in
       (record {
         numbers = defines.0;
         count = defines.1;
@@ -107,10 +107,23 @@ module _ {R S : Type 0} (form : ChainForm R S) where
       }
 
   -- a line that counts is held
-  pub hold_line : (new : Held R S) (lines : List Line) (line : Line) → HoldsNames form (with_first (names_in lines) (line_name line)) (lines ++ line ∷ []) new
-      → new.total ≡ size_in form lines + form.size_of (own_lines (line_name line) lines) line → size_in form lines + form.size_of (own_lines (line_name line) lines) line ≤ most_pairs → HoldsLines form (lines ++ line ∷ []) new
-  hold_line new lines line holds total room = record {
-    names = subst (λ names. HoldsNames form names (lines ++ line ∷ []) new) (sym (names_push lines line)) holds;
-    total = size_push form lines line ∙ sym total;
-    room = omega (arith, total, room);
-  }
+  pub hold_line : (held new : Held R S) (lines : List Line) (line : Line) (fault : Option Fault) → counts fault ≡ true → HoldsNames form (with_first (names_in lines) (line_name line)) (lines ++ line ∷ []) held
+      → numbers_of new.names ≡ numbers_of held.names → new.count ≡ held.count → new.records ≡ held.records → new.states ≡ held.states
+      → new.total ≡ size_in form lines + form.size_of (own_lines (line_name line) lines) line → size_in form lines + form.size_of (own_lines (line_name line) lines) line ≤ most_pairs → HoldsLines form (with_counted lines line fault) new
+  hold_line held new lines line fault counts_is holds n c r s total room =
+      let whole : HoldsLines form (lines ++ line ∷ []) new = record {
+        names = subst (λ names. HoldsNames form names (lines ++ line ∷ []) new) (sym (names_push lines line)) (record {
+          numbers = n ∙ holds.numbers;
+          count = holds.count ∙ sym c;
+          records = r ∙ holds.records;
+          states = s ∙ holds.states;
+        });
+        total = size_push form lines line ∙ sym total;
+        room = omega (arith, total, room);
+      } in
+      subst (λ b. HoldsLines form (cond b (lines ++ line ∷ []) lines) new) (sym counts_is) whole
+
+-- what holds of the value of an outcome
+pub ok_then : {A E : Type 0} (r : Result A E) (P Q : A → Type 0) → IfOk r P → ((x : A) → P x → Q x) → IfOk r Q
+ok_then (Ok x) P Q h more = more x h
+ok_then (Err e) P Q h more = tt

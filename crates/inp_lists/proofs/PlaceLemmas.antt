@@ -2,27 +2,32 @@
 use Rattle.std.proofs.Common.{◌≡◌, ◌∷◌, ◌++◌, [], ◌≤◌, ◌<◌, length, ℕ, zero, suc, ◌+◌, ◌-◌, List, Bool, true, false}
 use Rattle.std.proofs.Common.{cond, Option, Some, None, refl, ap, ap₂, sym, ◌∙◌, arith, subst, ◌||◌, map, set, get_or}
 use Rattle.std.proofs.Common.{nat_le, nat_lt, bytes_eq, append_assoc, length-append, is_some}
-use Rattle.std.specs.Bool.{⊤}
-use Rattle.std.specs.List.{IsDistinct, AllByRecursion, list_any, position_from}
+use Rattle.std.specs.List.{position_from}
 use Rattle.std.proofs.lemmas.Slice.Eq.{bytes_eq-Decides}
 use Rattle.std.proofs.lemmas.Bool.Decides.{nat_tests}
 use Rattle.fixed_num.specs.declared.constants.TheConstants.{RECORD_LIMIT}
 use Rattle.inp_lines.specs.Names.{is_repeat, with_first, number_in, naming_among, naming_by}
-use Rattle.inp_lines.proofs.NameLemmas.{first_known, first_full, first_new, apart_back}
+use Rattle.inp_lines.proofs.NameLemmas.{first_known, first_full, first_new}
 use Rattle.inp_lines.specs.declared.names.Naming.TheVariants as naming
 use Rattle.inp_lists.specs.Chains.{is_over}
-use Rattle.inp_lists.specs.Holding.{AreDistinct}
+use Rattle.inp_lists.specs.Holding.{AreApart, AreDistinct, IsApart}
+
+apart_back : (a b : List ℕ) → bytes_eq a b ≡ false → bytes_eq b a ≡ false
+apart_back a b h = go (bytes_eq b a) refl where
+  go : (c : Bool) → bytes_eq b a ≡ c → c ≡ false
+  go false e = refl
+  go true e = let same : b ≡ a = (bytes_eq-Decides b a).0 e in let back : bytes_eq a b ≡ true = (bytes_eq-Decides a b).1 (sym same) in cc
 
 -- a name that differs from all of a list isn't among them
 or_false : (a b : Bool) → (a || b) ≡ false → (a ≡ false) × (b ≡ false)
 or_false true b h = absurd (cc)
 or_false false b h = (refl, h)
 
-apart_all : (x : List ℕ) (names : List (List ℕ)) (name : List ℕ) → AllByRecursion (λ y. bytes_eq x y ≡ false) names → bytes_eq name x ≡ false → AllByRecursion (λ y. bytes_eq x y ≡ false) (names ++ name ∷ [])
+apart_all : (x : List ℕ) (names : List (List ℕ)) (name : List ℕ) → IsApart x names → bytes_eq name x ≡ false → IsApart x (names ++ name ∷ [])
 apart_all x [] name all h = (apart_back name x h, tt)
 apart_all x (y ∷ names) name all h = (all.0, apart_all x names name all.1 h)
 
-distinct_push : (names : List (List ℕ)) (name : List ℕ) → IsDistinct bytes_eq names → is_repeat names name ≡ false → IsDistinct bytes_eq (names ++ name ∷ [])
+distinct_push : (names : List (List ℕ)) (name : List ℕ) → AreApart names → is_repeat names name ≡ false → AreApart (names ++ name ∷ [])
 distinct_push [] name d h = (tt, tt)
 distinct_push (x ∷ names) name d h =
     let two = or_false (bytes_eq name x) (is_repeat names name) h in
@@ -72,11 +77,11 @@ module _ {A : Type 0} where
       (ap (λ n. get_or (map f names) n d) (omega arith) ∙ found.1, omega (arith, found.2))
 
   -- values of names that all differ from one
-  map_other : (f g : List ℕ → A) (name : List ℕ) (names : List (List ℕ)) → AllByRecursion (λ y. bytes_eq name y ≡ false) names → ((q : List ℕ) → bytes_eq q name ≡ false → f q ≡ g q) → map f names ≡ map g names
+  pub map_other : (f g : List ℕ → A) (name : List ℕ) (names : List (List ℕ)) → IsApart name names → ((q : List ℕ) → bytes_eq q name ≡ false → f q ≡ g q) → map f names ≡ map g names
   map_other f g name [] all same = refl
   map_other f g name (y ∷ names) all same = ap₂ (λ a l. a ∷ l) (same y (apart_back name y all.0)) (map_other f g name names all.1 same)
 
-  set_from : (f g : List ℕ → A) (name : List ℕ) (from k : ℕ) (names : List (List ℕ)) → IsDistinct bytes_eq names → position_from (bytes_eq name) from names ≡ Some k → ((q : List ℕ) → bytes_eq q name ≡ false → f q ≡ g q) → (from ≤ k) × (set (map f names) (k - from) (g name) ≡ map g names)
+  set_from : (f g : List ℕ → A) (name : List ℕ) (from k : ℕ) (names : List (List ℕ)) → AreApart names → position_from (bytes_eq name) from names ≡ Some k → ((q : List ℕ) → bytes_eq q name ≡ false → f q ≡ g q) → (from ≤ k) × (set (map f names) (k - from) (g name) ≡ map g names)
   set_from f g name from k [] d h same = absurd (cc)
   set_from f g name from k (x ∷ names) d h same = go (bytes_eq name x) refl h (set_from f g name (from + 1) k names d.1) where
     next : (n : ℕ) → n ≡ k - from → from + 1 ≤ k → set (f x ∷ map f names) n (g name) ≡ f x ∷ set (map f names) (k - (from + 1)) (g name)
@@ -86,7 +91,7 @@ module _ {A : Type 0} where
     go : (b : Bool) → bytes_eq name x ≡ b → cond b (Some from) (position_from (bytes_eq name) (from + 1) names) ≡ Some k → (position_from (bytes_eq name) (from + 1) names ≡ Some k → ((q : List ℕ) → bytes_eq q name ≡ false → f q ≡ g q) → (from + 1 ≤ k) × (set (map f names) (k - (from + 1)) (g name) ≡ map g names)) → (from ≤ k) × (set (f x ∷ map f names) (k - from) (g name) ≡ g x ∷ map g names)
     go true e found more = let same_name : x ≡ name = sym ((bytes_eq-Decides name x).0 e) in let is : from ≡ k = cc in
         let none : k - from ≡ 0 = omega (arith, is) in
-        let others : AllByRecursion (λ y. bytes_eq name y ≡ false) names = subst (λ (n : List ℕ). AllByRecursion (λ y. bytes_eq n y ≡ false) names) same_name d.0 in
+        let others : IsApart name names = subst (λ (n : List ℕ). IsApart n names) same_name d.0 in
         (omega (arith, is), ap (λ n. set (f x ∷ map f names) n (g name)) none ∙ ap₂ (λ a l. a ∷ l) (ap g (sym same_name)) (map_other f g name names others same))
     go false e found more = let rest = more found same in
         (omega (arith, rest.0), next (k - from) refl rest.0 ∙ ap₂ (λ a l. a ∷ l) (same x (apart_back name x e)) rest.1)

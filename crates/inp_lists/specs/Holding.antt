@@ -1,6 +1,5 @@
 -- What the walk over lines holds after some lines that count; for the walk alone.
-use Rattle.std.specs.Prelude.{◌≡◌, ℕ, ◌≤◌, false, if◌then◌else◌, List, [], ◌∷◌, ◌++◌, map, length, bytes_eq, Option}
-use Rattle.std.specs.List.{IsDistinct}
+use Rattle.std.specs.Prelude.{◌≡◌, ℕ, ◌≤◌, false, if◌then◌else◌, List, [], ◌∷◌, ◌++◌, map, length, bytes_eq, Option, ⊤}
 use Rattle.inp_lines.specs.declared.fault.Fault.{Fault}
 use Rattle.inp_lines.specs.declared.line.Line.{Line}
 use Rattle.inp_lines.specs.Names.{is_repeat, number_in}
@@ -22,9 +21,18 @@ pub record HoldsLines {R S : Type 0} (form : ChainForm R S) (lines : List Line) 
   pub total : size_in form lines ≡ held.total
   pub room : held.total ≤ most_pairs
 
+-- A name is none of these.
+abbrev pub IsApart : List ℕ → List (List ℕ) → Type 0
+IsApart name [] = ⊤
+IsApart name (other ∷ names) = (bytes_eq name other ≡ false) × IsApart name names
+
 -- No name stands twice.
+abbrev pub AreApart : List (List ℕ) → Type 0
+AreApart [] = ⊤
+AreApart (name ∷ names) = IsApart name names × AreApart names
+
 pub record AreDistinct (names : List (List ℕ)) : Type 0 where
-  pub distinct : IsDistinct bytes_eq names
+  pub distinct : AreApart names
 
 -- All lines have one of the names that these lines define.
 pub record AreNamed (lines : List Line) : Type 0 where

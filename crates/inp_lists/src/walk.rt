@@ -1,6 +1,6 @@
 // The walk over lines.
-ghost use Rattle.std.specs.Prelude.{◌≡◌, ◌≤◌, ◌<◌, ◌∷◌, ◌++◌, [], ℕ, false, get_or, set, length, List as Sequence};
-ghost use Rattle.std.specs.Prelude.{Some, IfOk, OnOk};
+ghost use Rattle.std.specs.Prelude.{◌≡◌, ◌≤◌, ◌<◌, ◌+◌, ◌∷◌, ◌++◌, [], ℕ, false, get_or, set, length, List as Sequence};
+ghost use Rattle.std.specs.Prelude.{None, Some, IfOk, OnOk};
 ghost use Rattle.inp_lines.specs.declared.line.Line.{Line as DataLine};
 ghost use Rattle.inp_lines.specs.Faults.{cut};
 ghost use Rattle.inp_lines.specs.Gather.{fault_found, gather, walk_fault};
@@ -106,7 +106,8 @@ fn read_line<'a, C: Chain>(
     let naming = naming_at(&held.names, name, held.count);
     let fault = line_fault(chain, state, naming, held.total, line);
     keep_line(alloc, chain, state, fault, line, held)?;
-    keep_fault(alloc, line, fault, faults)
+    keep_fault(alloc, line, fault, faults)?;
+    Ok(())
 }
 
 /// The name of a line.
@@ -126,11 +127,18 @@ fn own_state<'a, C: Chain>(
         → AreNamed lines → result ≡ (C.form chain.now).state_of (own_lines name.now lines) }
 {
     match number_of(&held.names, name) {
-        Some(number) => match held.states.as_slice().get(number as usize) {
-            Some(state) => *state,
-            None => chain.no_lines(),
-        },
+        Some(number) => state_at(&held.states, number, chain.no_lines()),
         None => chain.no_lines(),
+    }
+}
+
+/// The state at a place of a list; past the last there is another one.
+fn state_at<S: Copy + Drop>(states: &List<S>, place: u32, other: S) -> S
+    ensures { result ≡ get_or states.now place other }
+{
+    match states.as_slice().get(place as usize) {
+        Some(state) => *state,
+        None => other,
     }
 }
 
@@ -219,8 +227,15 @@ fn keep_line<'a, C: Chain>(
     let size = chain.size(state, line);
     let place = place_of(alloc, chain, held, name_of(line))?;
     add_line(alloc, chain, place, state, line, held)?;
-    held.total = held.total.saturating_add(size);
+    held.total = total_with(held.total, size);
     Ok(())
+}
+
+/// How many pairs there are with some more, if they are as many as may be.
+fn total_with(total: usize, size: usize) -> usize
+    ensures { total + size ≤ 1_000_000 → result ≡ total + size }
+{
+    total.saturating_add(size)
 }
 
 /// The number of a name, which is defined if it is new.
@@ -237,9 +252,26 @@ fn place_of<'a, C: Chain>(
             × (number_in (with_first (names_in lines) name.now) name.now ≡ Some place)
             × (held.new.total ≡ held.old.total)) }
 {
-    if let Some(number) = number_of(&held.names, name) {
-        return Ok(number);
+    match number_of(&held.names, name) {
+        Some(number) => Ok(number),
+        None => define(alloc, chain, held, name),
     }
+}
+
+/// Defines a new name, and gives its number.
+fn define<'a, C: Chain>(
+    alloc: Global,
+    chain: &C,
+    held: &mut Held<'a, C::Record, C::State>,
+    name: &'a [u8],
+) -> Result<u32, OutOfMemory>
+    ensures { IfOk result (λ place. numbers_of held.old.names name.now ≡ None → (lines : Sequence DataLine)
+        → HoldsNames (C.form chain.now) (names_in lines) lines held.old → AreNamed lines
+        → is_over (naming_among (names_in lines) name.now) ≡ false
+        → HoldsNames (C.form chain.now) (with_first (names_in lines) name.now) lines held.new
+            × (number_in (with_first (names_in lines) name.now) name.now ≡ Some place)
+            × (held.new.total ≡ held.old.total)) }
+{
     let number = held.count;
     held.count = add_first(&mut held.names, name, number)?;
     held.records.push(chain.new_record(alloc, name)?)?;

@@ -4,3 +4,4 @@ pub mod TimeLemmas
 pub mod GrowLemmas
 pub mod MeaningLemmas
 pub mod PatternLemmas
+pub mod LoopLemmas

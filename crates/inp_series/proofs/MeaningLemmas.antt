@@ -1,7 +1,7 @@
 -- What series and curves without a fault mean, and that they are sound.
 use Rattle.std.proofs.Common.{◌≡◌, ◌∷◌, ◌++◌, [], ◌≤◌, ◌<◌, length, ℕ, zero, suc, ◌+◌, ◌-◌, ◌&&◌, List, Bool, true, false, not, cond, drop}
 use Rattle.std.proofs.Common.{Option, Some, None, refl, ap, sym, ◌∙◌, subst, arith, ℤ, map, filter, sum_by, get_or, length-drop}
-use Rattle.std.specs.List.{All, AllByRecursion, AllZip, last_or}
+use Rattle.std.specs.List.{All, AllZip, last_or}
 use Rattle.std.specs.Bool.{⊤}
 use Rattle.std.specs.Option.{option_or, unwrap_or}
 use Rattle.std.proofs.lemmas.List.{length-map}
@@ -25,7 +25,7 @@ use Rattle.inp_lines.specs.Sources.{FaultsIn}
 use Rattle.inp_lines.proofs.NameLemmas.{number_within}
 use Rattle.inp_lines.proofs.ZipLemmas.{zip_unique}
 use Rattle.inp_lists.specs.Chains.{chain_names, chain_records, chain_states, fault_of, kept, names_in, own_lines}
-use Rattle.inp_lists.proofs.FaultlessLemmas.{all_map, chain_faults_in, few_names, few_sizes, kept_whole, own_all, own_some, zip_map}
+use Rattle.inp_lists.proofs.FaultlessLemmas.{Each, all_map, chain_faults_in, few_names, few_sizes, kept_whole, own_all, own_some, zip_map}
 use Rattle.inp_series.specs.declared.pairs.Axis.TheVariants.{Amounts}
 use Rattle.inp_series.specs.Pairs.{amount_of, are_no_pairs, pairs_fault, x_of}
 use Rattle.inp_series.specs.SeriesLines.{axis_at, dated_in, entries_in, is_file, is_series_line, is_series_section, series_fault}
@@ -141,7 +141,7 @@ curve_good lines none name = own_all curve_form (λ own. AreGood (λ before line
 or_else : (o : Option CurveKind) (kind : CurveKind) → o ≡ Some kind → unwrap_or o Storage ≡ kind
 or_else o kind e = ap (λ o. unwrap_or o Storage) e
 
-zip_some : {A B : Type 0} (P : A → Type 0) (Q : A → B → Type 0) (f : A → B) (xs : List A) → ((x : A) → P x → Q x (f x)) → AllByRecursion P xs → AllZip Q xs (map f xs)
+zip_some : {A B : Type 0} (P : A → Type 0) (Q : A → B → Type 0) (f : A → B) (xs : List A) → ((x : A) → P x → Q x (f x)) → Each P xs → AllZip Q xs (map f xs)
 zip_some P Q f [] each all = tt
 zip_some P Q f (x ∷ xs) each all = (each x all.0, zip_some P Q f xs each all.1)
 

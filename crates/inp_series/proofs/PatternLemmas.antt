@@ -2,7 +2,7 @@
 use Rattle.std.proofs.Common.{◌≡◌, ◌∷◌, ◌++◌, [], ◌≤◌, ◌<◌, length, ℕ, zero, suc, ◌+◌, ◌-◌, ◌&&◌, List, Bool, true, false, not, cond}
 use Rattle.std.proofs.Common.{Option, Some, None, refl, ap, ap₂, sym, ◌∙◌, subst, arith, ℤ, map, filter, filter_map, length-append}
 use Rattle.std.specs.Bool.{⊤}
-use Rattle.std.specs.List.{All, AllByRecursion, AllZip, cons_option}
+use Rattle.std.specs.List.{All, AllZip, cons_option}
 use Rattle.std.specs.Option.{IfSome, option_map, option_or, unwrap_or}
 use Rattle.std.proofs.lemmas.List.{length-map}
 use Rattle.std.proofs.lemmas.List.Elements.{All-nil, All-cons, filter_map-append}
@@ -27,7 +27,7 @@ use Rattle.inp_lines.specs.Sources.{FaultsIn}
 use Rattle.inp_lines.proofs.NameLemmas.{number_within}
 use Rattle.inp_lines.proofs.ZipLemmas.{zip_unique}
 use Rattle.inp_lists.specs.Chains.{chain_names, chain_records, kept, names_in, own_lines}
-use Rattle.inp_lists.proofs.FaultlessLemmas.{all_map, chain_faults_in, few_names, kept_whole, own_all, own_some}
+use Rattle.inp_lists.proofs.FaultlessLemmas.{Each, all_map, chain_faults_in, few_names, kept_whole, own_all, own_some}
 use Rattle.inp_series.specs.CurveLines.{is_first}
 use Rattle.inp_series.specs.PatternLines.{factor_fault, factor_items, factor_of, factors_fault, factors_left, is_pattern_line, is_pattern_section}
 use Rattle.inp_series.specs.PatternLines.{items_in, kind_with, pattern_fault, pattern_fault_in, pattern_form, pattern_from, pattern_kind_fault}
@@ -127,7 +127,7 @@ pattern_good lines none name = own_all pattern_form IsGood good_none (λ own lin
 or_else : (o : Option PatternKind) (kind : PatternKind) → o ≡ Some kind → unwrap_or o Monthly ≡ kind
 or_else o kind e = ap (λ o. unwrap_or o Monthly) e
 
-zip_some : {A B : Type 0} (P : A → Type 0) (Q : A → B → Type 0) (f : A → B) (xs : List A) → ((x : A) → P x → Q x (f x)) → AllByRecursion P xs → AllZip Q xs (map f xs)
+zip_some : {A B : Type 0} (P : A → Type 0) (Q : A → B → Type 0) (f : A → B) (xs : List A) → ((x : A) → P x → Q x (f x)) → Each P xs → AllZip Q xs (map f xs)
 zip_some P Q f [] each all = tt
 zip_some P Q f (x ∷ xs) each all = (each x all.0, zip_some P Q f xs each all.1)
 

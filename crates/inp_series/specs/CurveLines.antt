@@ -68,9 +68,14 @@ abbrev pub kind_fault : Option CurveKind → Option Fault
 kind_fault None = Some (fault_of NotInProfile 1)
 kind_fault (Some kind) = None
 
+-- The fault of a line, the first one of its curve or a later one, where this is the last x before it: the type, or the
+-- first pair at fault.
+abbrev pub fault_with : Bool → Option ℤ → Line → Option Fault
+fault_with first last line = option_or (if first then kind_fault (kind_of (token_at line.tokens 1)) else None)
+    (pairs_fault Amounts last (if first then 2 else 1) (drop (if first then 2 else 1) line.tokens))
+
 abbrev pub curve_fault_in : List Line → Line → Option Fault
-curve_fault_in own line = option_or (if is_first own then kind_fault (kind_of (token_at line.tokens 1)) else None)
-    (pairs_fault Amounts (last_or None (xs_in own)) (curve_place own) (curve_pairs own line))
+curve_fault_in own line = fault_with (is_first own) (last_or None (xs_in own)) line
 
 -- The curve of a name by its lines. One whose type is at fault, or that has no lines, stands as a storage curve; its
 -- type is none in the state.

@@ -87,9 +87,15 @@ pattern_kind_fault (Some kind) = None
 abbrev pub kind_with : List Line → Line → Option PatternKind
 kind_with own line = if is_first own then pattern_kind_of (token_at line.tokens 1) else pattern_kind_in own
 
+-- The fault of a line, the first one of its pattern or a later one, of a pattern of this type where so many factors may
+-- follow: the type, or the first factor at fault.
+abbrev pub fault_with : Bool → Option PatternKind → Option ℕ → Line → Option Fault
+fault_with first kind left line = option_or (if first then pattern_kind_fault kind else None)
+    (factors_fault left (if first then 2 else 1) (drop (if first then 2 else 1) line.tokens))
+
 abbrev pub pattern_fault_in : List Line → Line → Option Fault
-pattern_fault_in own line = option_or (if is_first own then pattern_kind_fault (kind_with own line) else None)
-    (factors_fault (factors_left (kind_with own line) (length (items_in own))) (pattern_place own) (factor_items own line))
+pattern_fault_in own line = fault_with (is_first own) (kind_with own line)
+    (factors_left (kind_with own line) (length (items_in own))) line
 
 -- The pattern of a name by its lines. One whose type is at fault, or that has no lines, stands as a monthly one.
 abbrev pub pattern_from : List ℕ → List Line → Pattern
@@ -98,10 +104,6 @@ pattern_from name own = record { name = name; kind = unwrap_or (pattern_kind_in 
 -- What its next line has to be judged by.
 abbrev pub pattern_state : List Line → PatternState
 pattern_state own = record { first = is_first own; kind = pattern_kind_in own; left = factors_left (pattern_kind_in own) (length (items_in own)) }
-
--- The same, once the type on a first line is known.
-abbrev pub state_at : List Line → Line → PatternState
-state_at own line = record { first = is_first own; kind = kind_with own line; left = factors_left (kind_with own line) (length (items_in own)) }
 
 -- How lines become patterns. They have no pairs.
 unfoldable pub pattern_form : ChainForm Pattern PatternState

@@ -63,9 +63,13 @@ dated_in own = list_all (λ has_date. has_date) (gather (λ before line. is_some
 abbrev pub series_is_short : Line → Bool
 series_is_short line = not (is_file line) && are_no_pairs (length line.tokens - series_place line)
 
+-- The fault of a line where this date holds, and this is the last time before it: a file, or the first pair at fault.
+abbrev pub fault_with : ℤ → Option ℤ → Option ℤ → Line → Option Fault
+fault_with start date last line = if is_file line then Some (fault_of NotInProfile 1)
+    else pairs_fault (Hours start date) last (series_place line) (series_pairs line)
+
 abbrev pub series_fault_in : ℤ → List Line → Line → Option Fault
-series_fault_in start own line = if is_file line then Some (fault_of NotInProfile 1)
-    else pairs_fault (axis_at start own line) (last_or None (times_in start own)) (series_place line) (series_pairs line)
+series_fault_in start own line = fault_with start (date_in (own ++ line ∷ [])) (last_or None (times_in start own)) line
 
 -- The series of a name by its lines.
 abbrev pub series_from : ℤ → List ℕ → List Line → Series

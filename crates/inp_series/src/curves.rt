@@ -1,12 +1,14 @@
 // Curves.
-ghost use Rattle.std.specs.Prelude.{◌≡◌, ⊤, [], ◌∷◌, ◌++◌, if◌then◌else◌, map, None, List as Sequence, IfOk};
-ghost use Rattle.inp_lines.specs.declared.line.Line.{Line as DataLine};
+ghost use Rattle.std.specs.Prelude.{◌≡◌, ◌-◌, ◌/◌, ⊤, [], if◌then◌else◌, drop, length, map, None, IfOk};
+ghost use Rattle.std.specs.Option.{unwrap_or};
+ghost use Rattle.net_types.specs.declared.tables.CurveKind.TheVariants.{Storage};
 ghost use Rattle.inp_lines.specs.Faults.{cut, token_at};
 ghost use Rattle.inp_lines.specs.Gather.{gather};
 ghost use Rattle.inp_lines.specs.Names.{number_in};
 ghost use Rattle.inp_lines.specs.Numbers.{numbers_of};
-ghost use Rattle.inp_series.specs.CurveLines.{curve_fault, curve_form, curve_names, curve_state, curve_states};
-ghost use Rattle.inp_series.specs.CurveLines.{curves_of, kind_fault, kind_in, kind_of};
+ghost use Rattle.inp_series.specs.CurveLines.{curve_fault, curve_form, curve_names, curve_states, curves_of};
+ghost use Rattle.inp_series.specs.CurveLines.{fault_with, is_curve_line, kind_fault, kind_of};
+ghost use Rattle.inp_series.specs.Pairs.{are_no_pairs};
 
 use crate::pairs::{Axis, add_pairs, are_no_pairs, from_place, last_x, pairs_fault};
 use inp_lines::{Fault, Line, SectionName, is_too_long};
@@ -103,13 +105,13 @@ fn first_fault(first: bool, line: &Line) -> Option<Fault>
 }
 
 /// The type of a curve after a line.
-fn kind_with(state: CurveState, line: &Line) -> Option<CurveKind>
-    ensures { (own : Sequence DataLine) → state ≡ curve_state own → result ≡ kind_in (own ++ line.now ∷ []) }
+fn kind_with(first: bool, kind: Option<CurveKind>, line: &Line) -> Option<CurveKind>
+    ensures { result ≡ (if first then kind_of (token_at line.now.tokens 1) else kind) }
 {
-    if state.first {
+    if first {
         kind_of(text_at(line.tokens.as_slice(), 1))
     } else {
-        state.kind
+        kind
     }
 }
 
@@ -120,6 +122,57 @@ fn place_by(first: bool) -> usize
     if first { 2 } else { 1 }
 }
 
+/// Whether a line is one of a curve.
+fn is_line(line: &Line) -> bool
+    ensures { result ≡ is_curve_line line.now }
+{
+    match line.section {
+        SectionName::Curves => !is_too_long(line),
+        _ => false,
+    }
+}
+
+/// The items of a line that are pairs.
+fn pairs_of(first: bool, line: &Line) -> &[Text]
+    ensures { result.now ≡ drop (if first then 2 else 1) line.now.tokens }
+{
+    from_place(line.tokens.as_slice(), place_by(first))
+}
+
+/// Whether a line has too few items.
+fn is_short_line(first: bool, line: &Line) -> bool
+    ensures { result ≡ are_no_pairs (length line.now.tokens - (if first then 2 else 1)) }
+{
+    are_no_pairs(line.tokens.as_slice().len().saturating_sub(place_by(first)))
+}
+
+/// How many pairs a line has.
+fn size_of(first: bool, line: &Line) -> usize
+    ensures { result ≡ length (drop (if first then 2 else 1) line.now.tokens) / 2 }
+{
+    pairs_of(first, line).len() / 2
+}
+
+/// The fault of a line where this is the last x before it.
+fn fault_of_line(first: bool, last: Option<i64>, line: &Line) -> Option<Fault>
+    ensures { result ≡ fault_with first last line.now }
+{
+    if let Some(found) = first_fault(first, line) {
+        return Some(found);
+    }
+    pairs_fault(Axis::Amounts, last, place_by(first), line.tokens.as_slice())
+}
+
+/// A type, or that of a storage where there is none.
+fn kind_or_storage(kind: Option<CurveKind>) -> CurveKind
+    ensures { result ≡ unwrap_or kind Storage }
+{
+    match kind {
+        Some(kind) => kind,
+        None => CurveKind::Storage,
+    }
+}
+
 impl Chain for CurveChain {
     type Record = Curve;
     type State = CurveState;
@@ -128,28 +181,27 @@ impl Chain for CurveChain {
 
     ghost is_good = { λ _. ⊤ };
 
+    #[tactic(auto, unfolding(crate::specs::CurveLines::curve_form))]
     fn is_of(&self, line: &Line) -> bool {
-        match line.section {
-            SectionName::Curves => !is_too_long(line),
-            _ => false,
-        }
+        is_line(line)
     }
 
+    #[tactic(auto, unfolding(crate::specs::CurveLines::curve_form))]
     fn is_short(&self, state: CurveState, line: &Line) -> bool {
-        are_no_pairs(line.tokens.as_slice().len().saturating_sub(place_by(state.first)))
+        is_short_line(state.first, line)
     }
 
+    #[tactic(auto, unfolding(crate::specs::CurveLines::curve_form))]
     fn size(&self, state: CurveState, line: &Line) -> usize {
-        from_place(line.tokens.as_slice(), place_by(state.first)).len() / 2
+        size_of(state.first, line)
     }
 
+    #[tactic(auto, unfolding(crate::specs::CurveLines::curve_form))]
     fn item_fault(&self, state: CurveState, line: &Line) -> Option<Fault> {
-        if let Some(found) = first_fault(state.first, line) {
-            return Some(found);
-        }
-        pairs_fault(Axis::Amounts, state.last, place_by(state.first), line.tokens.as_slice())
+        fault_of_line(state.first, state.last, line)
     }
 
+    #[tactic(auto, unfolding(crate::specs::CurveLines::curve_form))]
     fn no_lines(&self) -> CurveState {
         CurveState {
             first: true,
@@ -158,6 +210,7 @@ impl Chain for CurveChain {
         }
     }
 
+    #[tactic(auto, unfolding(crate::specs::CurveLines::curve_form))]
     fn new_record(&self, alloc: Global, name: &[u8]) -> Result<Curve, OutOfMemory> {
         Ok(Curve {
             name: Text::from_slice(alloc, name)?,
@@ -166,6 +219,7 @@ impl Chain for CurveChain {
         })
     }
 
+    #[tactic(auto, unfolding(crate::specs::CurveLines::curve_form))]
     fn add(
         &self,
         _: Global,
@@ -173,9 +227,9 @@ impl Chain for CurveChain {
         state: CurveState,
         line: &Line,
     ) -> Result<CurveState, OutOfMemory> {
-        let pairs = from_place(line.tokens.as_slice(), place_by(state.first));
-        let kind = kind_with(state, line);
-        made.kind = kind.unwrap_or(CurveKind::Storage);
+        let pairs = pairs_of(state.first, line);
+        let kind = kind_with(state.first, state.kind, line);
+        made.kind = kind_or_storage(kind);
         add_pairs(Axis::Amounts, pairs, &mut made.points)?;
         Ok(CurveState {
             first: false,

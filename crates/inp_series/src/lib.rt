@@ -5,7 +5,7 @@
 //! their lines, exactly as `specs/SeriesLines`, `specs/CurveLines` and `specs/PatternLines` say. Where no line is at
 //! fault, the lines mean these records and no others (`series_have_one_meaning` and the like, `specs/Meaning`), and
 //! these lie in their ranges (`series_are_sound` and the like).
-#![tactic(auto)]
+#![tactic(auto, using(fixed_num::proofs::Bounds::casts))]
 
 mod curves;
 mod laws;

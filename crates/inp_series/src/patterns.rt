@@ -1,14 +1,16 @@
 // Time patterns.
 ghost use Rattle.std.specs.Prelude.{◌≡◌, ◌-◌, ◌++◌, ◌∷◌, ⊤, [], if◌then◌else◌, drop, filter_map, option_map, option_to_list};
-ghost use Rattle.std.specs.Prelude.{None, List as Sequence, IfOk, OnOk, MatchOption};
+ghost use Rattle.std.specs.Prelude.{None, IfOk, OnOk, MatchOption};
 ghost use Rattle.inp_lines.specs.Faults.{cut, token_at};
 ghost use Rattle.inp_lines.specs.Gather.{gather};
 ghost use Rattle.inp_lines.specs.Names.{number_in};
 ghost use Rattle.inp_lines.specs.Numbers.{numbers_of};
-ghost use Rattle.inp_lines.specs.declared.line.Line.{Line as DataLine};
+ghost use Rattle.std.specs.Option.{unwrap_or};
 ghost use Rattle.net_types.specs.Ranges.{most_factors};
-ghost use Rattle.inp_series.specs.PatternLines.{factor_fault, factor_of, factors_fault, factors_left, pattern_fault, pattern_form};
-ghost use Rattle.inp_series.specs.PatternLines.{pattern_kind_fault, pattern_kind_in, pattern_kind_of, pattern_names, pattern_state, patterns_of, state_at};
+ghost use Rattle.net_types.specs.declared.tables.PatternKind.TheVariants.{Monthly};
+ghost use Rattle.inp_series.specs.PatternLines.{factor_fault, factor_of, factors_fault, factors_left, fault_with};
+ghost use Rattle.inp_series.specs.PatternLines.{is_pattern_line, pattern_fault, pattern_form, pattern_kind_fault};
+ghost use Rattle.inp_series.specs.PatternLines.{pattern_kind_of, pattern_names, patterns_of};
 
 use crate::pairs::from_place;
 use fixed_num::scaled_decimal;
@@ -177,29 +179,35 @@ fn kind_fault(kind: Option<PatternKind>) -> Option<Fault>
 }
 
 /// The fault of the type on the first line of a pattern.
-fn first_fault(first: bool, line: &Line) -> Option<Fault>
-    ensures { result ≡ (if first then pattern_kind_fault (pattern_kind_of (token_at line.now.tokens 1)) else None) }
+fn first_fault(first: bool, kind: Option<PatternKind>) -> Option<Fault>
+    ensures { result ≡ (if first then pattern_kind_fault kind else None) }
+{
+    if first { kind_fault(kind) } else { None }
+}
+
+/// The type of a pattern after a line.
+fn kind_with(first: bool, kind: Option<PatternKind>, line: &Line) -> Option<PatternKind>
+    ensures { result ≡ (if first then pattern_kind_of (token_at line.now.tokens 1) else kind) }
 {
     if first {
-        kind_fault(kind_of(text_at(line.tokens.as_slice(), 1)))
+        kind_of(text_at(line.tokens.as_slice(), 1))
     } else {
-        None
+        kind
     }
 }
 
-/// The state with the type that a line has, where it is the first.
-fn state_with(state: PatternState, line: &Line) -> PatternState
-    ensures { (own : Sequence DataLine) → state ≡ pattern_state own → result ≡ state_at own line.now }
+/// How many factors may stand on a line of a pattern of this type, where so many were left before.
+fn left_with(first: bool, kind: Option<PatternKind>, left: Option<usize>) -> Option<usize>
+    ensures { result ≡ (if first then factors_left kind 0 else left) }
 {
-    if !state.first {
-        return state;
-    }
-    let kind = kind_of(text_at(line.tokens.as_slice(), 1));
-    PatternState {
-        first: true,
-        kind,
-        left: most_of(kind),
-    }
+    if first { most_of(kind) } else { left }
+}
+
+/// The place of the first factor.
+fn place_by(first: bool) -> usize
+    ensures { result ≡ (if first then 2 else 1) }
+{
+    if first { 2 } else { 1 }
 }
 
 /// The items of a line that are factors.
@@ -209,11 +217,39 @@ fn factors_of(first: bool, line: &Line) -> &[Text]
     from_place(line.tokens.as_slice(), place_by(first))
 }
 
-/// The place of the first factor.
-fn place_by(first: bool) -> usize
-    ensures { result ≡ (if first then 2 else 1) }
+/// The fault of a line of a pattern of this type, where so many factors may follow.
+fn fault_of_line(
+    first: bool,
+    kind: Option<PatternKind>,
+    left: Option<usize>,
+    line: &Line,
+) -> Option<Fault>
+    ensures { result ≡ fault_with first kind left line.now }
 {
-    if first { 2 } else { 1 }
+    if let Some(found) = first_fault(first, kind) {
+        return Some(found);
+    }
+    factors_fault(left, place_by(first), line.tokens.as_slice())
+}
+
+/// Whether a line is one of a pattern.
+fn is_line(line: &Line) -> bool
+    ensures { result ≡ is_pattern_line line.now }
+{
+    match line.section {
+        SectionName::Patterns => !is_too_long(line),
+        _ => false,
+    }
+}
+
+/// A type, or the monthly one where there is none.
+fn kind_or_monthly(kind: Option<PatternKind>) -> PatternKind
+    ensures { result ≡ unwrap_or kind Monthly }
+{
+    match kind {
+        Some(kind) => kind,
+        None => PatternKind::Monthly,
+    }
 }
 
 impl Chain for PatternChain {
@@ -224,29 +260,29 @@ impl Chain for PatternChain {
 
     ghost is_good = { λ _. ⊤ };
 
+    #[tactic(auto, unfolding(crate::specs::PatternLines::pattern_form))]
     fn is_of(&self, line: &Line) -> bool {
-        match line.section {
-            SectionName::Patterns => !is_too_long(line),
-            _ => false,
-        }
+        is_line(line)
     }
 
+    #[tactic(auto, unfolding(crate::specs::PatternLines::pattern_form))]
     fn is_short(&self, _: PatternState, line: &Line) -> bool {
         line.tokens.as_slice().len() < 2
     }
 
+    #[tactic(auto, unfolding(crate::specs::PatternLines::pattern_form))]
     fn size(&self, _: PatternState, _: &Line) -> usize {
         0
     }
 
+    #[tactic(auto, unfolding(crate::specs::PatternLines::pattern_form))]
     fn item_fault(&self, state: PatternState, line: &Line) -> Option<Fault> {
-        if let Some(found) = first_fault(state.first, line) {
-            return Some(found);
-        }
-        let state = state_with(state, line);
-        factors_fault(state.left, place_by(state.first), line.tokens.as_slice())
+        let kind = kind_with(state.first, state.kind, line);
+        let left = left_with(state.first, kind, state.left);
+        fault_of_line(state.first, kind, left, line)
     }
 
+    #[tactic(auto, unfolding(crate::specs::PatternLines::pattern_form))]
     fn no_lines(&self) -> PatternState {
         PatternState {
             first: true,
@@ -255,6 +291,7 @@ impl Chain for PatternChain {
         }
     }
 
+    #[tactic(auto, unfolding(crate::specs::PatternLines::pattern_form))]
     fn new_record(&self, alloc: Global, name: &[u8]) -> Result<Pattern, OutOfMemory> {
         Ok(Pattern {
             name: Text::from_slice(alloc, name)?,
@@ -263,6 +300,7 @@ impl Chain for PatternChain {
         })
     }
 
+    #[tactic(auto, unfolding(crate::specs::PatternLines::pattern_form))]
     fn add(
         &self,
         _: Global,
@@ -270,14 +308,15 @@ impl Chain for PatternChain {
         state: PatternState,
         line: &Line,
     ) -> Result<PatternState, OutOfMemory> {
-        let state = state_with(state, line);
         let factors = factors_of(state.first, line);
-        made.kind = state.kind.unwrap_or(PatternKind::Monthly);
+        let kind = kind_with(state.first, state.kind, line);
+        let left = left_with(state.first, kind, state.left);
+        made.kind = kind_or_monthly(kind);
         add_factors(factors, &mut made.factors6)?;
         Ok(PatternState {
             first: false,
-            kind: state.kind,
-            left: less(state.left, factors.len()),
+            kind,
+            left: less(left, factors.len()),
         })
     }
 }

@@ -1,13 +1,13 @@
 // Time series.
-ghost use Rattle.std.specs.Prelude.{◌≡◌, ◌&&◌, ℤ, List as Sequence, [], ◌∷◌, ◌++◌, is_some, option_map, IfOk};
+ghost use Rattle.std.specs.Prelude.{◌≡◌, ◌&&◌, ◌/◌, [], length, IfOk};
+ghost use Rattle.std.specs.Option.{option_or};
 ghost use Rattle.fixed_num.specs.Ranges.{IsMoment};
 ghost use Rattle.inp_lines.specs.Faults.{cut};
 ghost use Rattle.inp_lines.specs.Gather.{gather};
 ghost use Rattle.inp_lines.specs.Names.{number_in};
 ghost use Rattle.inp_lines.specs.Numbers.{numbers_of};
-ghost use Rattle.inp_lines.specs.declared.line.Line.{Line as DataLine};
-ghost use Rattle.inp_series.specs.SeriesLines.{date_at, date_in, dated_in, entries_in, is_file, is_series_line, series_fault, series_fault_in};
-ghost use Rattle.inp_series.specs.SeriesLines.{series_form, series_from, series_is_short, series_names, series_of, series_pairs, series_place, series_state};
+ghost use Rattle.inp_series.specs.SeriesLines.{date_at, date_in, fault_with, is_file, is_series_line, series_fault};
+ghost use Rattle.inp_series.specs.SeriesLines.{series_form, series_is_short, series_names, series_of, series_pairs, series_place};
 
 use crate::pairs::{Axis, add_pairs, are_no_pairs, from_place, last_x, pairs_fault};
 use inp_lines::{Fault, Line, SectionName, is_too_long};
@@ -82,12 +82,50 @@ fn pairs_of(line: &Line) -> &[Text]
 
 /// The date that holds for a line.
 fn date_with(date: Option<i32>, line: &Line) -> Option<i32>
-    ensures { (own : Sequence DataLine) → date ≡ date_in own → result ≡ date_in (own ++ line.now ∷ []) }
+    ensures { result ≡ option_or (date_at line.now) date }
 {
     match date_at(line) {
         Some(day) => Some(day),
         None => date,
     }
+}
+
+/// Whether a line is one of a series.
+fn is_line(line: &Line) -> bool
+    ensures { result ≡ is_series_line line.now }
+{
+    match line.section {
+        SectionName::TimeSeries => !is_too_long(line),
+        _ => false,
+    }
+}
+
+/// Whether a line has too few items.
+fn is_short_line(line: &Line) -> bool
+    ensures { result ≡ series_is_short line.now }
+{
+    if is_file(line) {
+        return false;
+    }
+    are_no_pairs(line.tokens.as_slice().len().saturating_sub(place_of(line)))
+}
+
+/// How many pairs a line has.
+fn size_of(line: &Line) -> usize
+    ensures { result ≡ length (series_pairs line.now) / 2 }
+{
+    pairs_of(line).len() / 2
+}
+
+/// The fault of a line where this date holds, and this is the last time before it.
+fn fault_of_line(start: i64, date: Option<i32>, last: Option<i64>, line: &Line) -> Option<Fault>
+    requires { IsMoment start }
+    ensures { result ≡ fault_with start date last line.now }
+{
+    if is_file(line) {
+        return Some(fault(FaultKind::NotInProfile, 1));
+    }
+    pairs_fault(Axis::Hours(start, date), last, place_of(line), line.tokens.as_slice())
 }
 
 impl Chain for SeriesChain {
@@ -98,29 +136,27 @@ impl Chain for SeriesChain {
 
     ghost is_good = { λ chain. IsMoment chain.start };
 
+    #[tactic(auto, unfolding(crate::specs::SeriesLines::series_form))]
     fn is_of(&self, line: &Line) -> bool {
-        match line.section {
-            SectionName::TimeSeries => !is_too_long(line),
-            _ => false,
-        }
+        is_line(line)
     }
 
+    #[tactic(auto, unfolding(crate::specs::SeriesLines::series_form))]
     fn is_short(&self, _: SeriesState, line: &Line) -> bool {
-        !is_file(line) && are_no_pairs(line.tokens.as_slice().len().saturating_sub(place_of(line)))
+        is_short_line(line)
     }
 
+    #[tactic(auto, unfolding(crate::specs::SeriesLines::series_form))]
     fn size(&self, _: SeriesState, line: &Line) -> usize {
-        pairs_of(line).len() / 2
+        size_of(line)
     }
 
+    #[tactic(auto, unfolding(crate::specs::SeriesLines::series_form))]
     fn item_fault(&self, state: SeriesState, line: &Line) -> Option<Fault> {
-        if is_file(line) {
-            return Some(fault(FaultKind::NotInProfile, 1));
-        }
-        let axis = Axis::Hours(self.start, date_with(state.date, line));
-        pairs_fault(axis, state.last, place_of(line), line.tokens.as_slice())
+        fault_of_line(self.start, date_with(state.date, line), state.last, line)
     }
 
+    #[tactic(auto, unfolding(crate::specs::SeriesLines::series_form))]
     fn no_lines(&self) -> SeriesState {
         SeriesState {
             date: None,
@@ -128,6 +164,7 @@ impl Chain for SeriesChain {
         }
     }
 
+    #[tactic(auto, unfolding(crate::specs::SeriesLines::series_form))]
     fn new_record(&self, alloc: Global, name: &[u8]) -> Result<Series, OutOfMemory> {
         Ok(Series {
             name: Text::from_slice(alloc, name)?,
@@ -136,6 +173,7 @@ impl Chain for SeriesChain {
         })
     }
 
+    #[tactic(auto, unfolding(crate::specs::SeriesLines::series_form))]
     fn add(
         &self,
         _: Global,
@@ -146,11 +184,18 @@ impl Chain for SeriesChain {
         let date = date_with(state.date, line);
         let axis = Axis::Hours(self.start, date);
         let pairs = pairs_of(line);
-        made.dated = made.dated && date.is_some();
+        made.dated = both(made.dated, date.is_some());
         add_pairs(axis, pairs, &mut made.entries)?;
         Ok(SeriesState {
             date,
             last: last_x(axis, state.last, pairs),
         })
     }
+}
+
+/// Whether both hold.
+fn both(a: bool, b: bool) -> bool
+    ensures { result ≡ (a && b) }
+{
+    a && b
 }

@@ -23,7 +23,7 @@ pub loop-line-preserved : goal.loop-line-preserved
 unfolding counted_reading
 loop-line-preserved g c =
     let known = context_of c.args.known.now in
-    let form : CountedForm g.F.Form.Record = record { is_of = g.F.Counted.is_of; row = g.F.Form.form } in
+    let form : CountedForm g.row.F-Record.Denot = record { is_of = g.F.Counted.is_of; row = g.F.Form.form } in
     let lines = c.as_slice-line-items.result.now in
     let i = c.loop-line.line-index in
     let line = c.line-item.result in
@@ -43,7 +43,7 @@ pub returns-clause-records : goal.returns-clause-records
 unfolding counted_of
 returns-clause-records g c =
     let known = context_of c.args.known.now in
-    let form : CountedForm g.F.Form.Record = record { is_of = g.F.Counted.is_of; row = g.F.Form.form } in
+    let form : CountedForm g.row.F-Record.Denot = record { is_of = g.F.Counted.is_of; row = g.F.Form.form } in
     let lines = c.as_slice-line-items.result.now in
     c.loop-line.invariant.records_are
     ∙ ap (λ l. c.args.records.now ++ l) (gather_all (counted_at known form) lines c.loop-line.line-index c.loop-line-test.false
@@ -52,7 +52,7 @@ returns-clause-records g c =
 pub returns-clause-faults : goal.returns-clause-faults
 returns-clause-faults g c =
     let known = context_of c.args.known.now in
-    let form : CountedForm g.F.Form.Record = record { is_of = g.F.Counted.is_of; row = g.F.Form.form } in
+    let form : CountedForm g.row.F-Record.Denot = record { is_of = g.F.Counted.is_of; row = g.F.Form.form } in
     let lines = c.as_slice-line-items.result.now in
     c.loop-line.invariant.faults_are
     ∙ ap cut (gather_all (counted_fault known form) lines c.loop-line.line-index c.loop-line-test.false

@@ -3,7 +3,7 @@ use Rattle.net_types.specs.declared.faults.LineFault.{LineFault}
 use Rattle.inp_lines.specs.Faults.{cut}
 use Rattle.inp_lines.specs.Gather.{gather}
 use Rattle.inp_forms.specs.Context.{context_of}
-use Rattle.inp_inflows.specs.Counted.{counted_at, counted_fault}
+use Rattle.inp_inflows.specs.Counted.{CountedForm, counted_at, counted_fault}
 use Rattle.inp_inflows.proofs.CountedLemmas.{counted}
 use Rattle.inp_inflows.proofs.counted.read_counted.Given as goal
 
@@ -18,6 +18,6 @@ abbrev pub invariant-loop-line : goal.invariant-loop-line
 invariant-loop-line g l =
     let before = take l.line-index l.line-items in
     let known = context_of l.known in
-    let form = record { is_of = g.F.Counted.is_of; row = g.F.Form.form } in
+    let form : CountedForm g.row.F-Record.Denot = record { is_of = g.F.Counted.is_of; row = g.F.Form.form } in
     ReadSoFar l.count (counted form before) l.records (l.initial.records ++ gather (counted_at known form) [] before)
     l.found (gather (counted_fault known form) [] before)
