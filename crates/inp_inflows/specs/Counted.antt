@@ -1,5 +1,6 @@
 -- Lines that define no name, each of which gives one record, as many as there may be of a kind.
-use Rattle.std.specs.Prelude.{◌≡◌, ◌≤◌, ◌+◌, ◌&&◌, ℕ, Bool, not, if◌then◌else◌, min, nat_lt, nat_le, List, [], filter, length}
+use Rattle.std.specs.Prelude.{◌≡◌, ◌≤◌, ◌+◌, ◌&&◌, ℕ, Bool, not, if◌then◌else◌, min}
+use Rattle.std.specs.Prelude.{nat_lt, nat_le, List, [], filter, length}
 use Rattle.std.specs.List.{AllZip}
 use Rattle.fixed_num.specs.declared.constants.TheConstants.{RECORD_LIMIT}
 use Rattle.net_types.specs.declared.faults.FaultKind.TheVariants.{OverLimit}
@@ -51,7 +52,8 @@ reading_with known form full line =
 unfoldable pub counted_reading : {R : Type 0} → Context → CountedForm R → List Line → Line → Reading R
 counted_reading known form before line = reading_with known form (is_full form before) line
 
--- The record of a line and its fault, each none or one, by the lines before it; and the records of lines in their order.
+-- The record of a line and its fault, each none or one, by the lines before it; and the records of lines in their
+-- order.
 abbrev pub counted_at : {R : Type 0} → Context → CountedForm R → List Line → Line → List R
 counted_at known form before line = records_in (counted_reading known form before line)
 

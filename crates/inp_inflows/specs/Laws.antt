@@ -36,8 +36,10 @@ CountedAreFew R = (known : Context) (form : CountedForm R) (lines : List Line)
 
 -- the numbers of names are those of objects of a project
 pub record NamesSources (known : Context) (project : Project) : Type 0 where
-  pub nodes : (name : List ℕ) (n : ℕ) → object_number known objects.Nodes name ≡ Some n → n < length project.nodes
-  pub series : (name : List ℕ) (n : ℕ) → object_number known objects.Series name ≡ Some n → n < length project.series
+  pub nodes : (name : List ℕ) (n : ℕ) → object_number known objects.Nodes name ≡ Some n
+      → n < length project.nodes
+  pub series : (name : List ℕ) (n : ℕ) → object_number known objects.Series name ≡ Some n
+      → n < length project.series
   pub patterns : (name : List ℕ) (n : ℕ) → object_number known objects.Patterns name ≡ Some n
       → n < length project.patterns
 

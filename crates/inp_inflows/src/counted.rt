@@ -4,7 +4,8 @@ ghost use Rattle.inp_lines.specs.declared.line.SectionName.{SectionName as DataS
 ghost use Rattle.inp_lines.specs.Faults.{cut};
 ghost use Rattle.inp_lines.specs.Gather.{faults_in, gather, records_in};
 ghost use Rattle.inp_forms.specs.Context.{context_of};
-ghost use Rattle.inp_inflows.specs.Counted.{CountedForm, count_after, counted_fault, counted_of, is_counted, is_line_of};
+ghost use Rattle.inp_inflows.specs.Counted.{CountedForm, count_after, counted_fault, counted_of, is_counted};
+ghost use Rattle.inp_inflows.specs.Counted.{is_line_of};
 ghost use Rattle.inp_inflows.specs.Counted.{is_short, reading_with};
 
 use fixed_num::RECORD_LIMIT;

@@ -15,7 +15,8 @@ use inp_values::Quantity;
 use net_types::{Inflow, LineFault, List, OutOfMemory};
 use std::alloc::Global;
 
-/// The items of a direct inflow: node, constituent, series, type, units factor, scale, baseline, pattern of the baseline.
+/// The items of a direct inflow: node, constituent, series, type, units factor, scale, baseline, and the pattern of the
+/// baseline.
 pub(crate) const INFLOW: [Item; 8] = [
     Item::Needed(What::Object(Objects::Nodes)),
     Item::Needed(What::Word(Words::Constituent)),

@@ -1,5 +1,6 @@
 -- Records that are made of several lines: all lines of a section with the same name, in their order.
-use Rattle.std.specs.Prelude.{ℕ, ◌+◌, ◌==◌, ◌||◌, ◌&&◌, Bool, true, false, not, if◌then◌else◌, nat_lt, List, [], ◌∷◌, ◌++◌}
+use Rattle.std.specs.Prelude.{ℕ, ◌+◌, ◌==◌, ◌||◌, ◌&&◌, Bool, true, false, not, if◌then◌else◌}
+use Rattle.std.specs.Prelude.{nat_lt, List, [], ◌∷◌, ◌++◌}
 use Rattle.std.specs.Prelude.{map, filter, sum, bytes_eq, Option, Some, None}
 use Rattle.net_types.specs.declared.faults.FaultKind.{FaultKind}
 use Rattle.net_types.specs.declared.faults.FaultKind.TheVariants.{TooFewItems, OverLimit}
@@ -71,7 +72,8 @@ fault_by form own naming total line =
 -- The same by the lines before it that count.
 unfoldable pub fault_in : {R S : Type 0} → ChainForm R S → List Line → Line → Option Fault
 fault_in form held line =
-    fault_by form (own_lines (line_name line) held) (naming_among (names_in held) (line_name line)) (size_in form held) line
+    fault_by form (own_lines (line_name line) held) (naming_among (names_in held) (line_name line))
+    (size_in form held) line
 
 -- Whether a line with this fault, or without one, counts: a line with too few items or over a limit defines no name
 -- and gives no pairs, any other does (this project's profile).
@@ -99,7 +101,8 @@ unfoldable pub chain_names : {R S : Type 0} → ChainForm R S → List Line → 
 chain_names form lines = names_in (kept form lines)
 
 unfoldable pub chain_records : {R S : Type 0} → ChainForm R S → List Line → List R
-chain_records form lines = map (λ name. form.record_of name (own_lines name (kept form lines))) (chain_names form lines)
+chain_records form lines =
+    map (λ name. form.record_of name (own_lines name (kept form lines))) (chain_names form lines)
 
 unfoldable pub chain_states : {R S : Type 0} → ChainForm R S → List Line → List S
 chain_states form lines = map (λ name. form.state_of (own_lines name (kept form lines))) (chain_names form lines)

@@ -1,5 +1,6 @@
 -- What the walk over lines holds after some lines that count; for the walk alone.
-use Rattle.std.specs.Prelude.{◌≡◌, ℕ, ◌≤◌, false, if◌then◌else◌, List, [], ◌∷◌, ◌++◌, map, length, bytes_eq, Option, ⊤}
+use Rattle.std.specs.Prelude.{◌≡◌, ℕ, ◌≤◌, false, if◌then◌else◌, List, [], ◌∷◌, ◌++◌}
+use Rattle.std.specs.Prelude.{map, length, bytes_eq, Option, ⊤}
 use Rattle.inp_lines.specs.declared.fault.Fault.{Fault}
 use Rattle.inp_lines.specs.declared.line.Line.{Line}
 use Rattle.inp_lines.specs.Names.{is_repeat, number_in}
@@ -8,8 +9,8 @@ use Rattle.inp_lists.specs.declared.held.Held.{Held}
 use Rattle.inp_lists.specs.Chains.{ChainForm, counts, names_in, own_lines, size_in, most_pairs}
 
 -- These names are numbered, and each has the record and the state of its lines.
-pub record HoldsNames {R S : Type 0} (form : ChainForm R S) (names : List (List ℕ)) (lines : List Line) (held : Held R S)
-    : Type 0 where
+pub record HoldsNames {R S : Type 0} (form : ChainForm R S) (names : List (List ℕ)) (lines : List Line)
+    (held : Held R S) : Type 0 where
   pub numbers : numbers_of held.names ≡ number_in names
   pub count : length names ≡ held.count
   pub records : held.records ≡ map (λ name. form.record_of name (own_lines name lines)) names

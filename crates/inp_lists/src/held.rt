@@ -2,8 +2,8 @@
 use inp_lines::Names;
 use net_types::List;
 
-/// The names that lines define so far, their count, and the record and the state of each, by the names' numbers. `total`
-/// is how many pairs the lines have.
+/// The names that lines define so far, their count, and the record and the state of each, by the names' numbers.
+/// `total` is how many pairs the lines have.
 #[derive(Drop)]
 pub(crate) struct Held<'a, R, S> {
     pub(crate) names: Names<'a>,

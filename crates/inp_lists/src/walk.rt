@@ -1,5 +1,6 @@
 // The walk over lines.
-ghost use Rattle.std.specs.Prelude.{◌≡◌, ◌≤◌, ◌<◌, ◌+◌, ◌∷◌, ◌++◌, [], ℕ, false, get_or, set, length, List as Sequence};
+ghost use Rattle.std.specs.Prelude.{◌≡◌, ◌≤◌, ◌<◌, ◌+◌, ◌∷◌, ◌++◌, [], ℕ, false};
+ghost use Rattle.std.specs.Prelude.{get_or, set, length, List as Sequence};
 ghost use Rattle.std.specs.Prelude.{None, Some, IfOk, OnOk};
 ghost use Rattle.inp_lines.specs.declared.line.Line.{Line as DataLine};
 ghost use Rattle.inp_lines.specs.Faults.{cut};
@@ -38,7 +39,8 @@ pub fn read_chain<'a, C: Chain>(
     lines: &'a List<Line>,
 ) -> Result<Chained<'a, C::Record, C::State>, OutOfMemory>
     requires good { C.is_good chain.now }
-    ensures names { IfOk result (λ read. numbers_of read.names ≡ number_in (chain_names (C.form chain.now) lines.now)) }
+    ensures names { IfOk result (λ read. numbers_of read.names
+        ≡ number_in (chain_names (C.form chain.now) lines.now)) }
     ensures records { IfOk result (λ read. read.records ≡ chain_records (C.form chain.now) lines.now) }
     ensures states { IfOk result (λ read. read.states ≡ chain_states (C.form chain.now) lines.now) }
     ensures faults { IfOk result (λ read. read.faults

@@ -1,3 +1,4 @@
+pub mod SameLemmas
 pub mod PushLemmas
 pub mod PairLemmas
 pub mod TimeLemmas

@@ -34,6 +34,7 @@ use Rattle.inp_series.specs.CurveLines.{curve_fault, curve_fault_in, curve_form,
 use Rattle.inp_series.specs.CurveLines.{curves_of, is_curve_line, is_curve_section, is_first, kind_fault, kind_in, kind_of, points_in, xs_in}
 use Rattle.inp_series.specs.Meaning.{IsCurve, IsSeries, MeanCurves, MeanSeries}
 use Rattle.inp_series.proofs.GrowLemmas.{AreGood, give_unique, good_none, good_push, values_grow}
+use Rattle.inp_series.proofs.SameLemmas.{same_curve, same_series}
 use Rattle.inp_series.proofs.PushLemmas.{kind_push}
 use Rattle.inp_series.proofs.TimeLemmas.{amount_in, series_x_in}
 
@@ -72,9 +73,6 @@ series_mean start lines none =
         λ name. record { name_is = refl; dated_is = refl; entries_are = (good name).means } in
     subst (λ l. AllZip (λ name made. IsSeries start name (own_lines name l) made) (names_in l) (series_of start lines)) (kept_whole (series_form start) lines none)
     (zip_map (λ name made. IsSeries start name (own_lines name (kept (series_form start) lines)) made) (λ name. series_from start name (own_lines name (kept (series_form start) lines))) (names_in (kept (series_form start) lines)) each)
-
-same_series : (a b : Series) → a.name ≡ b.name → a.dated ≡ b.dated → a.entries ≡ b.entries → a ≡ b
-same_series a b p q r = λ i. record { name = p i; dated = q i; entries = r i }
 
 pub series_one : (start : ℤ) (lines : List Line) (a b : List Series) → MeanSeries start lines a → MeanSeries start lines b → a ≡ b
 series_one start lines a b p q = zip_unique (λ name made. IsSeries start name (own_lines name (filter is_series_line lines)) made)
@@ -153,9 +151,6 @@ curves_mean lines none =
         λ name some. let kind = (good name).1.typed some in record { name_is = refl; kind_is = kind.1 ∙ ap Some (sym (or_else (kind_in (own_lines name (kept curve_form lines))) kind.0 kind.1)); points_are = (good name).0.means } in
     subst (λ l. AllZip (λ name made. IsCurve name (own_lines name l) made) (names_in l) (curves_of lines)) (kept_whole curve_form lines none)
     (zip_some (λ name. 1 ≤ length (own_lines name (kept curve_form lines))) (λ name made. IsCurve name (own_lines name (kept curve_form lines)) made) (λ name. curve_from name (own_lines name (kept curve_form lines))) (names_in (kept curve_form lines)) each (own_some curve_form lines))
-
-same_curve : (a b : Curve) → a.name ≡ b.name → a.kind ≡ b.kind → a.points ≡ b.points → a ≡ b
-same_curve a b p q r = λ i. record { name = p i; kind = q i; points = r i }
 
 pub curves_one : (lines : List Line) (a b : List Curve) → MeanCurves lines a → MeanCurves lines b → a ≡ b
 curves_one lines a b p q = zip_unique (λ name made. IsCurve name (own_lines name (filter is_curve_line lines)) made)

@@ -1,5 +1,5 @@
 -- Pairs without a fault: what they mean, and that their first values rise.
-use Rattle.std.proofs.Common.{◌≡◌, ◌∷◌, ◌++◌, [], ◌≤◌, ◌<◌, length, ℕ, zero, suc, ◌+◌, ◌*◌, ◌/◌, ◌%◌, ◌==◌, ◌||◌, List, Bool, true, false, cond}
+use Rattle.std.proofs.Common.{◌≡◌, ◌∷◌, ◌++◌, [], ◌≤◌, ◌<◌, length, ℕ, zero, suc, ◌+◌, ◌-◌, ◌*◌, ◌/◌, ◌%◌, ◌==◌, ◌||◌, List, Bool, true, false, cond}
 use Rattle.std.proofs.Common.{Option, Some, None, refl, ap, ap₂, sym, ◌∙◌, subst, arith, ℤ, pos, ◌<ℤ◌, ◌≤ℤ◌, int_lt, option_to_list}
 use Rattle.std.proofs.Common.{append_assoc, append-nil, length-append, get_or, ◌⊎◌, inl, inr}
 use Rattle.std.specs.Bool.{⊤}
@@ -132,7 +132,10 @@ at_old : (pairs : List (ℤ × ℤ)) (pair : ℤ × ℤ) (k : ℕ) → k < lengt
 at_old pairs pair k within = get_or_append_left pairs (pair ∷ []) (pos 0, pos 0) k within
 
 at_new : (pairs : List (ℤ × ℤ)) (pair : ℤ × ℤ) (k : ℕ) → k ≡ length pairs → pair_at (pairs ++ pair ∷ []) k ≡ pair
-at_new pairs pair k e = get_or-append_right pairs (pair ∷ []) (length pairs) k (pos 0, pos 0) refl (omega (arith, e)) ∙ ap (λ n. get_or (pair ∷ []) n (pos 0, pos 0)) (omega (arith, e))
+at_new pairs pair k e =
+    let zero_left : k - length pairs ≡ 0 = omega (arith, e) in
+    let past : length pairs ≤ k = omega (arith, e) in
+    get_or-append_right pairs (pair ∷ []) (length pairs) k (pos 0, pos 0) refl past ∙ ap (λ n. get_or (pair ∷ []) n (pos 0, pos 0)) zero_left
 
 rises_push : (pairs : List (ℤ × ℤ)) (last : Option ℤ) (x y : ℤ) → Rises pairs last → follows last x ≡ true → Rises (pairs ++ (x, y) ∷ []) (Some x)
 rises_push pairs last x y up greater = record {

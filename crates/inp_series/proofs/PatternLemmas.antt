@@ -33,6 +33,7 @@ use Rattle.inp_series.specs.PatternLines.{factor_fault, factor_items, factor_of,
 use Rattle.inp_series.specs.PatternLines.{items_in, kind_with, pattern_fault, pattern_fault_in, pattern_form, pattern_from, pattern_kind_fault}
 use Rattle.inp_series.specs.PatternLines.{pattern_kind_in, pattern_kind_of, pattern_names, pattern_place, patterns_of, value_fault}
 use Rattle.inp_series.specs.Meaning.{IsPattern, MeanPatterns}
+use Rattle.inp_series.proofs.SameLemmas.{same_pattern}
 use Rattle.inp_series.proofs.PushLemmas.{items_push, pattern_kind_push}
 
 or_none : {A : Type 0} (a b : Option A) → option_or a b ≡ None → (a ≡ None) × (b ≡ None)
@@ -139,9 +140,6 @@ patterns_mean lines none =
         λ name some. let kind = (good name).typed some in record { name_is = refl; kind_is = kind.1 ∙ ap Some (sym (or_else (pattern_kind_in (own_lines name (kept pattern_form lines))) kind.0 kind.1)); factors_are = (good name).factors } in
     subst (λ l. AllZip (λ name made. IsPattern name (own_lines name l) made) (names_in l) (patterns_of lines)) (kept_whole pattern_form lines none)
     (zip_some (λ name. 1 ≤ length (own_lines name (kept pattern_form lines))) (λ name made. IsPattern name (own_lines name (kept pattern_form lines)) made) (λ name. pattern_from name (own_lines name (kept pattern_form lines))) (names_in (kept pattern_form lines)) each (own_some pattern_form lines))
-
-same_pattern : (a b : Pattern) → a.name ≡ b.name → a.kind ≡ b.kind → a.factors6 ≡ b.factors6 → a ≡ b
-same_pattern a b p q r = λ i. record { name = p i; kind = q i; factors6 = r i }
 
 pub patterns_one : (lines : List Line) (a b : List Pattern) → MeanPatterns lines a → MeanPatterns lines b → a ≡ b
 patterns_one lines a b p q = zip_unique (λ name made. IsPattern name (own_lines name (filter is_pattern_line lines)) made)

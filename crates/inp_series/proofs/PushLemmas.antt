@@ -14,7 +14,7 @@ use Rattle.inp_lines.proofs.GatherLemmas.{gather_push}
 use Rattle.inp_series.specs.Pairs.{xs_of, values_of}
 use Rattle.inp_series.specs.SeriesLines.{axis_at, date_at, date_in, dated_in, entries_in, series_pairs, times_in}
 use Rattle.inp_series.specs.CurveLines.{curve_pairs, is_first, kind_in, kind_of, points_in, xs_in}
-use Rattle.inp_series.specs.PatternLines.{factor_items, factors_left, items_in, kind_with, pattern_kind_in, pattern_kind_of}
+use Rattle.inp_series.specs.PatternLines.{factor_items, factor_of, factors_left, items_in, kind_with, pattern_kind_in, pattern_kind_of}
 use Rattle.inp_series.specs.declared.pairs.Axis.TheVariants.{Amounts}
 
 pub last_append : {A : Type 0} (o : Option A) (xs ys : List A) → last_or o (xs ++ ys) ≡ last_or (last_or o xs) ys
@@ -90,3 +90,10 @@ kind_first own line e = ap (λ b. cond b (pattern_kind_of (token_at line.tokens 
 pub none_first : (own : List Line) → is_first own ≡ true → length (items_in own) ≡ 0
 none_first [] e = refl
 none_first (first ∷ own) e = absurd (cc)
+
+pub left_is : (own : List Line) (line : Line) (kind : Option PatternKind) → kind ≡ kind_with own line → cond (is_first own) (factors_left kind 0) (factors_left (pattern_kind_in own) (length (items_in own))) ≡ factors_left (kind_with own line) (length (items_in own))
+left_is [] line kind e = ap (λ k. factors_left k 0) e
+left_is (first ∷ own) line kind e = refl
+
+pub factors_push : (own : List Line) (line : Line) → filter_map factor_of (items_in (own ++ line ∷ [])) ≡ filter_map factor_of (items_in own) ++ filter_map factor_of (factor_items own line)
+factors_push own line = ap (filter_map factor_of) (items_push own line) ∙ filter_map-append factor_of (items_in own) (factor_items own line)

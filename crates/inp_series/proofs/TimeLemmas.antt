@@ -33,10 +33,11 @@ year_least year = go (is_leap_year year) where
   go true = omega arith
   go false = omega arith
 
-years_least : (year more : ℕ) → days_before_year year + 365 * more ≤ days_before_year (more + year)
+years_least : (year more later : ℕ) → later ≡ year + more → days_before_year year + 365 * more ≤ days_before_year later
 unfolding days_before_year
-years_least year zero = omega arith
-years_least year (suc more) = omega (arith, years_least year more, year_least (more + year))
+years_least year zero later e = let same : later ≡ year = omega (arith, e) in omega (arith, ap days_before_year same)
+years_least year (suc more) zero e = absurd (omega (arith, e))
+years_least year (suc more) (suc later) e = let rest = years_least year more later (omega (arith, e)) in omega (arith, rest, year_least later)
 
 first_day : (year : ℕ) → days_before year 1 1 ≡ days_before_year year
 unfolding days_before days_of_months
@@ -46,7 +47,7 @@ first_day year = omega arith
 date_below : (year month day : ℕ) → IsRealDay year month day → year ≤ 2100 → days_before year month day + 36_135 ≤ days_before 2200 12 31
 date_below year month day real last =
     let before = before_later_year year month day 2101 real (omega (arith, last)) in
-    omega (arith, before, first_day 2101, years_least 2101 99, first_day 2200, in_year 2200 12 31)
+    omega (arith, before, first_day 2101, years_least 2101 99 2200 (omega arith), first_day 2200, in_year 2200 12 31)
 
 number_below : (year month day : ℕ) → IsRealDay year month day → year ≤ 2100 → day_number year month day ≤ℤ pos 48_235
 unfolding day_number
@@ -64,10 +65,12 @@ date_day text day e =
 
 last_day : (o : Option ℤ) (lines : List Line) → IfSome o IsDay → IfSome (last_or o (filter_map date_at lines)) IsDay
 last_day o [] is = is
-last_day o (line ∷ lines) is = go (date_at line) refl where
-  go : (d : Option ℤ) → date_at line ≡ d → IfSome (last_or o (cons_option d (filter_map date_at lines))) IsDay
-  go None e = last_day o lines is
-  go (Some day) e = last_day (Some day) lines (date_day (token_at line.tokens 1) day e)
+last_day o (line ∷ lines) is = go (date_at line) refl (last_day o lines is) (λ day here. last_day (Some day) lines here) where
+  go : (d : Option ℤ) → date_at line ≡ d → IfSome (last_or o (filter_map date_at lines)) IsDay
+      → ((day : ℤ) → IsDay day → IfSome (last_or (Some day) (filter_map date_at lines)) IsDay)
+      → IfSome (last_or o (cons_option d (filter_map date_at lines))) IsDay
+  go None e kept later = kept
+  go (Some day) e kept later = later day (date_day (token_at line.tokens 1) day e)
 
 pub day_in : (lines : List Line) → IfSome (date_in lines) IsDay
 day_in lines = last_day None lines tt

@@ -1,5 +1,6 @@
 -- Lines of curves (User's Manual, section [CURVES]).
-use Rattle.std.specs.Prelude.{ℕ, ◌-◌, ◌/◌, ◌&&◌, ℤ, Bool, true, false, not, if◌then◌else◌, List, [], ◌∷◌, codes, length, drop}
+use Rattle.std.specs.Prelude.{ℕ, ◌-◌, ◌/◌, ◌&&◌, ℤ, Bool, true, false, not, if◌then◌else◌, List}
+use Rattle.std.specs.Prelude.{[], ◌∷◌, codes, length, drop}
 use Rattle.std.specs.Prelude.{is_none, Option, Some, None}
 use Rattle.std.specs.List.{last_or}
 use Rattle.std.specs.Option.{option_or, unwrap_or}

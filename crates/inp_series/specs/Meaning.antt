@@ -32,12 +32,13 @@ ArePairs axis (x ∷ y ∷ items) [] = ⊥
 ArePairs axis (x ∷ y ∷ items) (pair ∷ pairs) = IsX axis x pair.0 × IsStored (unit_for Cms Raw) y pair.1
     × ArePairs axis items pairs
 
--- Lines mean these pairs, one line after the other. What the first items of a line are, and which of its items are pairs,
--- depends on the lines before it.
-abbrev pub GivePairs : (List Line → Line → Axis) → (List Line → Line → List (List ℕ)) → List Line → List Line
-    → List (ℤ × ℤ) → Type 0
+-- Lines mean these pairs, one line after the other. What the first items of a line are, and which of its items are
+-- pairs, depends on the lines before it.
+abbrev pub GivePairs : (List Line → Line → Axis) → (List Line → Line → List (List ℕ)) → List Line
+    → List Line → List (ℤ × ℤ) → Type 0
 GivePairs axis items before [] pairs = pairs ≡ []
-GivePairs axis items before (line ∷ lines) pairs = (here : List (ℤ × ℤ)) × (rest : List (ℤ × ℤ)) × (pairs ≡ here ++ rest)
+GivePairs axis items before (line ∷ lines) pairs =
+    (here : List (ℤ × ℤ)) × (rest : List (ℤ × ℤ)) × (pairs ≡ here ++ rest)
     × ArePairs (axis before line) (items before line) here × GivePairs axis items (before ++ line ∷ []) lines rest
 
 -- The lines of a name mean this series.
@@ -60,7 +61,8 @@ pub record IsPattern (name : List ℕ) (own : List Line) (pattern : Pattern) : T
 
 -- Lines mean these records: one for each name, in the order of the names' first lines.
 abbrev pub MeanSeries : ℤ → List Line → List Series → Type 0
-MeanSeries start lines series = AllZip (λ name made. IsSeries start name (own_lines name (filter is_series_line lines)) made)
+MeanSeries start lines series =
+    AllZip (λ name made. IsSeries start name (own_lines name (filter is_series_line lines)) made)
     (names_in (filter is_series_line lines)) series
 
 abbrev pub MeanCurves : List Line → List Curve → Type 0

@@ -1,5 +1,6 @@
 -- Lines of time patterns (User's Manual, section [PATTERNS]).
-use Rattle.std.specs.Prelude.{ℕ, zero, suc, ◌+◌, ◌-◌, ◌&&◌, ℤ, Bool, true, false, not, if◌then◌else◌, nat_lt, List, [], ◌∷◌, codes, length, drop}
+use Rattle.std.specs.Prelude.{ℕ, zero, suc, ◌+◌, ◌-◌, ◌&&◌, ℤ, Bool, true, false, not}
+use Rattle.std.specs.Prelude.{if◌then◌else◌, nat_lt, List, [], ◌∷◌, codes, length, drop}
 use Rattle.std.specs.Prelude.{filter_map, Option, Some, None}
 use Rattle.std.specs.Option.{option_map, option_or, unwrap_or}
 use Rattle.fixed_num.specs.Decimal.{scaled_of}
@@ -99,11 +100,19 @@ pattern_fault_in own line = fault_with (is_first own) (kind_with own line)
 
 -- The pattern of a name by its lines. One whose type is at fault, or that has no lines, stands as a monthly one.
 abbrev pub pattern_from : List ℕ → List Line → Pattern
-pattern_from name own = record { name = name; kind = unwrap_or (pattern_kind_in own) Monthly; factors6 = filter_map factor_of (items_in own) }
+pattern_from name own = record {
+  name = name;
+  kind = unwrap_or (pattern_kind_in own) Monthly;
+  factors6 = filter_map factor_of (items_in own);
+}
 
 -- What its next line has to be judged by.
 abbrev pub pattern_state : List Line → PatternState
-pattern_state own = record { first = is_first own; kind = pattern_kind_in own; left = factors_left (pattern_kind_in own) (length (items_in own)) }
+pattern_state own = record {
+  first = is_first own;
+  kind = pattern_kind_in own;
+  left = factors_left (pattern_kind_in own) (length (items_in own));
+}
 
 -- How lines become patterns. They have no pairs.
 unfoldable pub pattern_form : ChainForm Pattern PatternState

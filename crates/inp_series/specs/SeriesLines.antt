@@ -1,5 +1,6 @@
 -- Lines of time series (User's Manual, section [TIMESERIES]).
-use Rattle.std.specs.Prelude.{ℕ, ◌-◌, ◌/◌, ◌&&◌, ℤ, Bool, true, false, not, if◌then◌else◌, nat_le, List, [], ◌∷◌, ◌++◌, codes, length, drop}
+use Rattle.std.specs.Prelude.{ℕ, ◌-◌, ◌/◌, ◌&&◌, ℤ, Bool, true, false, not, if◌then◌else◌}
+use Rattle.std.specs.Prelude.{nat_le, List, [], ◌∷◌, ◌++◌, codes, length, drop}
 use Rattle.std.specs.Prelude.{is_some, Option, Some, None}
 use Rattle.std.specs.List.{filter_map, last_or, list_all}
 use Rattle.net_types.specs.declared.faults.FaultKind.TheVariants.{NotInProfile}
@@ -58,7 +59,8 @@ entries_in start own = gather (λ before line. values_of (axis_at start before l
 
 -- Whether each line has a date, its own or one from a line before it.
 abbrev pub dated_in : List Line → Bool
-dated_in own = list_all (λ has_date. has_date) (gather (λ before line. is_some (date_in (before ++ line ∷ [])) ∷ []) [] own)
+dated_in own = list_all (λ has_date. has_date)
+    (gather (λ before line. is_some (date_in (before ++ line ∷ [])) ∷ []) [] own)
 
 abbrev pub series_is_short : Line → Bool
 series_is_short line = not (is_file line) && are_no_pairs (length line.tokens - series_place line)
@@ -69,7 +71,8 @@ fault_with start date last line = if is_file line then Some (fault_of NotInProfi
     else pairs_fault (Hours start date) last (series_place line) (series_pairs line)
 
 abbrev pub series_fault_in : ℤ → List Line → Line → Option Fault
-series_fault_in start own line = fault_with start (date_in (own ++ line ∷ [])) (last_or None (times_in start own)) line
+series_fault_in start own line =
+    fault_with start (date_in (own ++ line ∷ [])) (last_or None (times_in start own)) line
 
 -- The series of a name by its lines.
 abbrev pub series_from : ℤ → List ℕ → List Line → Series

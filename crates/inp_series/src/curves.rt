@@ -1,5 +1,6 @@
 // Curves.
-ghost use Rattle.std.specs.Prelude.{◌≡◌, ◌-◌, ◌/◌, ⊤, [], if◌then◌else◌, drop, length, map, None, IfOk};
+ghost use Rattle.std.specs.Prelude.{◌≡◌, ◌-◌, ◌/◌, ⊤, [], if◌then◌else◌, drop, length, map};
+ghost use Rattle.std.specs.Prelude.{None, IfOk};
 ghost use Rattle.std.specs.Option.{unwrap_or};
 ghost use Rattle.net_types.specs.declared.tables.CurveKind.TheVariants.{Storage};
 ghost use Rattle.inp_lines.specs.Faults.{cut, token_at};
@@ -17,9 +18,9 @@ use inp_values::is_word;
 use net_types::{Curve, CurveKind, FaultKind, List, OutOfMemory, Text};
 use std::alloc::Global;
 
-/// What the next line of a curve is judged by: whether it is the first, the curve's type, none where it is at fault, and
-/// the last x.
-#[derive(Clone, Copy, Debug, PartialEq, Eq)]
+/// What the next line of a curve is judged by: whether it is the first, the curve's type, none where it is at fault,
+/// and the last x.
+#[derive(Clone, Copy, Debug)]
 pub struct CurveState {
     pub first: bool,
     pub kind: Option<CurveKind>,

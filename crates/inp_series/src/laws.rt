@@ -1,6 +1,7 @@
 // Laws of time series, curves and patterns, in the words of their definitions.
 ghost use Rattle.inp_series.specs.Laws.{CurvesAreSound, CurvesHaveOneMeaning, FaultsAreOfSections};
-ghost use Rattle.inp_series.specs.Laws.{PatternsAreSound, PatternsHaveOneMeaning, SeriesAreSound, SeriesHaveOneMeaning};
+ghost use Rattle.inp_series.specs.Laws.{PatternsAreSound, PatternsHaveOneMeaning, SeriesAreSound};
+ghost use Rattle.inp_series.specs.Laws.{SeriesHaveOneMeaning};
 
 /// Law: lines without a fault mean the time series that are read of them, and no others.
 pub fn series_have_one_meaning()

@@ -1,9 +1,12 @@
 // Pairs of items, as the lines of time series and curves have them.
-ghost use Rattle.std.specs.Prelude.{◌≡◌, ◌≤◌, ◌<◌, ◌+◌, ◌^◌, ◌++◌, ◌∷◌, pos, length, drop, option_map, IfSome, OnOk, MatchOption};
+ghost use Rattle.std.specs.Prelude.{◌≡◌, ◌≤◌, ◌<◌, ◌+◌, ◌^◌, ◌++◌, ◌∷◌, pos};
+ghost use Rattle.std.specs.Prelude.{◌+ℤ◌, ◌-ℤ◌, ◌*ℤ◌, length, drop, option_map, IfSome, OnOk};
+ghost use Rattle.std.specs.Prelude.{MatchOption};
 ghost use Rattle.std.specs.List.{last_or};
 ghost use Rattle.std.specs.Option.{option_or};
 ghost use Rattle.fixed_num.specs.Ranges.{IsBetween, IsMoment};
-ghost use Rattle.inp_series.specs.Pairs.{amount_of, are_no_pairs, bad_kind, follows, moved, order_kind, pair_fault, pair_of};
+ghost use Rattle.inp_series.specs.Pairs.{amount_of, are_no_pairs, bad_kind, follows, moved, order_kind, pair_fault};
+ghost use Rattle.inp_series.specs.Pairs.{pair_of};
 ghost use Rattle.inp_series.specs.Pairs.{pairs_fault, values_of, x_of, xs_of};
 ghost use Rattle.inp_series.specs.Axes.{IsAxis};
 
@@ -14,11 +17,12 @@ use inp_values::{Quantity, hours, unit_of};
 use net_types::{FaultKind, FlowUnits, List, OutOfMemory, Text};
 
 /// What the first items of pairs are.
-#[derive(Clone, Copy, Debug, PartialEq, Eq)]
+#[derive(Clone, Copy)]
 pub(crate) enum Axis {
     /// Raw numbers.
     Amounts,
-    /// Hours, by the start of the run in ms from 1970-01-01 and the date from which they count, if there is one, in days.
+    /// Hours, by the start of the run in ms from 1970-01-01 and the date from which they count, if there is one, in
+    /// days.
     Hours(i64, Option<i32>),
 }
 
@@ -57,13 +61,31 @@ fn time(start: i64, date: Option<i32>, ms: Option<i64>) -> Option<i64>
     requires hours { IfSome ms (λ ms. IsBetween (pos 0) ms (pos (10 ^ 12))) }
     ensures { result ≡ option_map (moved start date) ms }
 {
-    let Some(ms) = ms else {
-        return None;
-    };
-    match date {
-        None => Some(ms),
-        Some(day) => Some(day as i64 * 86_400_000 - start + ms),
+    match ms {
+        None => None,
+        Some(ms) => Some(time_of(start, date, ms)),
     }
+}
+
+/// A time from the start of a run that is some ms from the start, or from the beginning of a day.
+fn time_of(start: i64, date: Option<i32>, ms: i64) -> i64
+    requires start { IsMoment start }
+    requires hours { IsBetween (pos 0) ms (pos (10 ^ 12)) }
+    ensures { result ≡ moved start date ms }
+{
+    match date {
+        None => ms,
+        Some(day) => on_day(start, day, ms),
+    }
+}
+
+/// A time from the start of a run that is some ms from the beginning of a day.
+fn on_day(start: i64, day: i32, ms: i64) -> i64
+    requires start { IsMoment start }
+    requires hours { IsBetween (pos 0) ms (pos (10 ^ 12)) }
+    ensures { result ≡ day *ℤ pos 86_400_000 -ℤ start +ℤ ms }
+{
+    day as i64 * 86_400_000 - start + ms
 }
 
 /// The fault of a text that has no such value.

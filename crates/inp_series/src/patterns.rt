@@ -1,5 +1,6 @@
 // Time patterns.
-ghost use Rattle.std.specs.Prelude.{◌≡◌, ◌-◌, ◌++◌, ◌∷◌, ⊤, [], if◌then◌else◌, drop, filter_map, option_map, option_to_list};
+ghost use Rattle.std.specs.Prelude.{◌≡◌, ◌-◌, ◌++◌, ◌∷◌, ⊤, [], if◌then◌else◌, drop};
+ghost use Rattle.std.specs.Prelude.{filter_map, option_map, option_to_list};
 ghost use Rattle.std.specs.Prelude.{None, IfOk, OnOk, MatchOption};
 ghost use Rattle.inp_lines.specs.Faults.{cut, token_at};
 ghost use Rattle.inp_lines.specs.Gather.{gather};
@@ -20,9 +21,9 @@ use inp_values::{Quantity, is_word, unit_of};
 use net_types::{FaultKind, FlowUnits, List, OutOfMemory, Pattern, PatternKind, Text};
 use std::alloc::Global;
 
-/// What the next line of a pattern is judged by: whether it is the first, the pattern's type, none where it is at fault,
-/// and how many factors may follow, without a limit where there is no type.
-#[derive(Clone, Copy, Debug, PartialEq, Eq)]
+/// What the next line of a pattern is judged by: whether it is the first, the pattern's type, none where it is at
+/// fault, and how many factors may follow, without a limit where there is no type.
+#[derive(Clone, Copy, Debug)]
 pub struct PatternState {
     pub first: bool,
     pub kind: Option<PatternKind>,

@@ -7,7 +7,8 @@ ghost use Rattle.inp_lines.specs.Gather.{gather};
 ghost use Rattle.inp_lines.specs.Names.{number_in};
 ghost use Rattle.inp_lines.specs.Numbers.{numbers_of};
 ghost use Rattle.inp_series.specs.SeriesLines.{date_at, date_in, fault_with, is_file, is_series_line, series_fault};
-ghost use Rattle.inp_series.specs.SeriesLines.{series_form, series_is_short, series_names, series_of, series_pairs, series_place};
+ghost use Rattle.inp_series.specs.SeriesLines.{series_form, series_is_short, series_names, series_of, series_pairs};
+ghost use Rattle.inp_series.specs.SeriesLines.{series_place};
 
 use crate::pairs::{Axis, add_pairs, are_no_pairs, from_place, last_x, pairs_fault};
 use inp_lines::{Fault, Line, SectionName, is_too_long};
@@ -17,7 +18,7 @@ use net_types::{FaultKind, List, OutOfMemory, Series, Text};
 use std::alloc::Global;
 
 /// What the next line of a series is judged by: the date that holds, in days from 1970-01-01, and the last time.
-#[derive(Clone, Copy, Debug, PartialEq, Eq)]
+#[derive(Clone, Copy, Debug)]
 pub struct SeriesState {
     pub date: Option<i32>,
     pub last: Option<i64>,

@@ -3,8 +3,8 @@ use Rattle.std.specs.List.{last_or}
 use Rattle.inp_series.specs.Pairs.{xs_of}
 use Rattle.inp_series.proofs.pairs.last_x.Given as goal
 
-abbrev pub invariant-loop-rest : goal.invariant-loop-rest
-invariant-loop-rest l = last_or l.last (xs_of l.axis l.rest) ≡ last_or l.initial.last (xs_of l.axis l.tokens)
+abbrev pub invariant-loop-x : goal.invariant-loop-x
+invariant-loop-x l = last_or l.last (xs_of l.axis l.rest) ≡ last_or l.initial.last (xs_of l.axis l.tokens)
 
-abbrev pub decreases-loop-rest : goal.decreases-loop-rest
-decreases-loop-rest l = length l.rest
+abbrev pub decreases-loop-x : goal.decreases-loop-x
+decreases-loop-x l = length l.rest

@@ -8,8 +8,8 @@ pub record FaultSoFar (rest count : ℕ) (left all : Option Fault) : Type 0 wher
   pub within : rest ≤ count
   pub same : left ≡ all
 
-abbrev pub invariant-loop-rest : goal.invariant-loop-rest
-invariant-loop-rest l = FaultSoFar (length l.rest) l.count (pairs_fault l.axis l.last (l.count - length l.rest) l.rest) (pairs_fault l.axis l.initial.last l.first (drop l.first l.tokens))
+abbrev pub invariant-loop-x : goal.invariant-loop-x
+invariant-loop-x l = FaultSoFar (length l.rest) l.count (pairs_fault l.axis l.last (l.count - length l.rest) l.rest) (pairs_fault l.axis l.initial.last l.first (drop l.first l.tokens))
 
-abbrev pub decreases-loop-rest : goal.decreases-loop-rest
-decreases-loop-rest l = length l.rest
+abbrev pub decreases-loop-x : goal.decreases-loop-x
+decreases-loop-x l = length l.rest

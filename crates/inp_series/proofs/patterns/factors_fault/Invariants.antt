@@ -8,8 +8,8 @@ pub record FaultSoFar (rest count : ℕ) (left all : Option Fault) : Type 0 wher
   pub within : rest ≤ count
   pub same : left ≡ all
 
-abbrev pub invariant-loop-rest : goal.invariant-loop-rest
-invariant-loop-rest l = FaultSoFar (length l.rest) l.count (factors_fault l.left (l.count - length l.rest) l.rest) (factors_fault l.initial.left l.first (drop l.first l.tokens))
+abbrev pub invariant-loop-text : goal.invariant-loop-text
+invariant-loop-text l = FaultSoFar (length l.rest) l.count (factors_fault l.left (l.count - length l.rest) l.rest) (factors_fault l.initial.left l.first (drop l.first l.tokens))
 
-abbrev pub decreases-loop-rest : goal.decreases-loop-rest
-decreases-loop-rest l = length l.rest
+abbrev pub decreases-loop-text : goal.decreases-loop-text
+decreases-loop-text l = length l.rest
