@@ -158,10 +158,10 @@ fn size_of(first: bool, line: &Line) -> usize
 fn fault_of_line(first: bool, last: Option<i64>, line: &Line) -> Option<Fault>
     ensures { result ≡ fault_with first last line.now }
 {
-    if let Some(found) = first_fault(first, line) {
-        return Some(found);
+    match first_fault(first, line) {
+        Some(found) => Some(found),
+        None => pairs_fault(Axis::Amounts, last, place_by(first), line.tokens.as_slice()),
     }
-    pairs_fault(Axis::Amounts, last, place_by(first), line.tokens.as_slice())
 }
 
 /// A type, or that of a storage where there is none.

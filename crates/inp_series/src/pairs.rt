@@ -166,11 +166,13 @@ pub(crate) fn pairs_fault(
     let mut last = last;
     while let Some((x, y, more)) = next_pair(rest) {
         let value = x_value(axis, x);
-        if let Some(found) = pair_fault(axis, last, count - rest.len(), value, amount(y)) {
-            return Some(found);
+        match pair_fault(axis, last, count - rest.len(), value, amount(y)) {
+            Some(found) => return Some(found),
+            None => {
+                last = later(value, last);
+                rest = more;
+            }
         }
-        last = later(value, last);
-        rest = more;
     }
     None
 }

@@ -125,11 +125,13 @@ fn factors_fault(left: Option<usize>, first: usize, tokens: &[Text]) -> Option<F
     let mut rest = from_place(tokens, first);
     let mut left = left;
     while let Some((text, more)) = next_item(rest) {
-        if let Some(found) = factor_fault(left, count - rest.len(), text) {
-            return Some(found);
+        match factor_fault(left, count - rest.len(), text) {
+            Some(found) => return Some(found),
+            None => {
+                left = less(left, 1);
+                rest = more;
+            }
         }
-        left = less(left, 1);
-        rest = more;
     }
     None
 }
@@ -227,10 +229,10 @@ fn fault_of_line(
 ) -> Option<Fault>
     ensures { result ≡ fault_with first kind left line.now }
 {
-    if let Some(found) = first_fault(first, kind) {
-        return Some(found);
+    match first_fault(first, kind) {
+        Some(found) => Some(found),
+        None => factors_fault(left, place_by(first), line.tokens.as_slice()),
     }
-    factors_fault(left, place_by(first), line.tokens.as_slice())
 }
 
 /// Whether a line is one of a pattern.
