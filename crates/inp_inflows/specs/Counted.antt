@@ -45,8 +45,8 @@ abbrev pub reading_with : {R : Type 0} → Context → CountedForm R → Bool �
 reading_with known form full line =
     if is_line_of form line
     then (if is_short form line then Faulty (too_few_of line.tokens)
-        else if full then Faulty (fault_of OverLimit 0)
-        else row_reading known First form.row line)
+    else if full then Faulty (fault_of OverLimit 0)
+    else row_reading known First form.row line)
     else Other
 
 unfoldable pub counted_reading : {R : Type 0} → Context → CountedForm R → List Line → Line → Reading R

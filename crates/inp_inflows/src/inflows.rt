@@ -22,7 +22,10 @@ pub(crate) const INFLOW: [Item; 8] = [
     Item::Needed(What::Word(Words::Constituent)),
     Item::Needed(What::Maybe(Objects::Series)),
     Item::Or(Value::Choice(Keyword::Flow), What::Word(Words::InflowType)),
-    Item::Or(Value::Amount(1_000_000), What::Only(1_000_000, Quantity::Raw)),
+    Item::Or(
+        Value::Amount(1_000_000),
+        What::Only(1_000_000, Quantity::Raw),
+    ),
     Item::Or(Value::Amount(1_000_000), What::Number(Quantity::Raw)),
     Item::Or(Value::Amount(0), What::Number(Quantity::Raw)),
     Item::Or(Value::Nothing, What::Object(Objects::Patterns)),

@@ -151,9 +151,9 @@ module _ {R S : Type 0} (form : ChainForm R S) where
   own_some lines = kept_by form (λ lines. Each (λ name. 1 ≤ length (own_lines name lines)) (names_in lines))
       (subst (Each (λ name. 1 ≤ length (own_lines name []))) (sym names_none) tt)
       (λ before line all is one. let lines = kept form before in
-          subst (Each (λ name. 1 ≤ length (own_lines name (lines ++ line ∷ [])))) (sym (names_push lines line))
-          (all_first (λ name. 1 ≤ length (own_lines name (lines ++ line ∷ []))) (names_in lines) (line_name line)
-              (all_more (λ name. 1 ≤ length (own_lines name lines)) (λ name. 1 ≤ length (own_lines name (lines ++ line ∷ []))) (names_in lines) (own_grows lines line) all) (own_new lines line)))
+      subst (Each (λ name. 1 ≤ length (own_lines name (lines ++ line ∷ [])))) (sym (names_push lines line))
+      (all_first (λ name. 1 ≤ length (own_lines name (lines ++ line ∷ []))) (names_in lines) (line_name line)
+      (all_more (λ name. 1 ≤ length (own_lines name lines)) (λ name. 1 ≤ length (own_lines name (lines ++ line ∷ []))) (names_in lines) (own_grows lines line) all) (own_new lines line)))
       lines
 
   -- there are at most as many names as may be
@@ -230,8 +230,8 @@ module _ {R S : Type 0} (form : ChainForm R S) where
     pub few_sizes : (lines : List Line) → sum_by size (map (λ name. form.record_of name (own_lines name (kept form lines))) (names_in (kept form lines))) ≤ most_pairs
     few_sizes lines =
         let all : all_sizes (kept form lines) (names_in (kept form lines)) ≤ size_in form (kept form lines) = kept_by form (λ lines. all_sizes lines (names_in lines) ≤ size_in form lines)
-            (subst (λ names. all_sizes [] names ≤ size_in form []) (sym names_none) none_small)
-            (λ before line few is one. size_step before line few one.name_room) lines in
+        (subst (λ names. all_sizes [] names ≤ size_in form []) (sym names_none) none_small)
+        (λ before line few is one. size_step before line few one.name_room) lines in
         omega (arith, few_pairs lines, all, sum_map (names_in (kept form lines)) (kept form lines))
 
 -- a fact of each name and its record

@@ -25,10 +25,10 @@ a_repeat names name k e = sym (placed_any (bytes_eq name) 0 names) ∙ ap is_som
 module _ {R S : Type 0} (form : ChainForm R S) where
   pub hold_none : (held : Held R S) → numbers_of held.names ≡ number_in [] → held.count ≡ 0 → held.total ≡ 0 → held.records ≡ [] → held.states ≡ [] → HoldsLines form (kept form []) held
   hold_none held n c t r s = subst (λ l. HoldsLines form l held) (sym (kept_none form)) (record {
-      names = subst (λ names. HoldsNames form names [] held) (sym names_none) (record { numbers = n; count = sym c; records = r; states = s });
-      total = size_none form ∙ sym t;
-      room = omega (arith, t);
-    })
+    names = subst (λ names. HoldsNames form names [] held) (sym names_none) (record { numbers = n; count = sym c; records = r; states = s });
+    total = size_none form ∙ sym t;
+    room = omega (arith, t);
+  })
 
   pub hold_other : (held : Held R S) (before : List Line) (line : Line) → form.is_of line ≡ false → HoldsLines form (kept form before) held → HoldsLines form (kept form (before ++ line ∷ [])) held
   hold_other held before line e holds = subst (λ l. HoldsLines form l held) (sym (kept_other form before line e)) holds
@@ -69,15 +69,17 @@ module _ {R S : Type 0} (form : ChainForm R S) where
       let fresh = no_repeat (names_in lines) name none in
       let added = first_new (names_in lines) name fresh (room_first (names_in lines) name fresh over) in
       let own = are.named name fresh in
-      let placed = placed_none (bytes_eq name) 0 old.count (names_in lines) name (omega (arith, holds.count)) none in
-      (record {
-        numbers = defines.0;
-        count = defines.1;
-        records = r ∙ (ap (λ l. l ++ form.record_of name [] ∷ []) holds.records ∙ (ap (λ own. map (λ name. form.record_of name (own_lines name lines)) (names_in lines) ++ form.record_of name own ∷ []) (sym own)
-            ∙ (sym (map-append (λ name. form.record_of name (own_lines name lines)) (names_in lines) (name ∷ [])) ∙ ap (map (λ name. form.record_of name (own_lines name lines))) (sym added))));
-        states = s ∙ (ap (λ l. l ++ form.state_of [] ∷ []) holds.states ∙ (ap (λ own. map (λ name. form.state_of (own_lines name lines)) (names_in lines) ++ form.state_of own ∷ []) (sym own)
-            ∙ (sym (map-append (λ name. form.state_of (own_lines name lines)) (names_in lines) (name ∷ [])) ∙ ap (map (λ name. form.state_of (own_lines name lines))) (sym added))));
-      }, ap (λ names. number_in names name) added ∙ (placed ∙ ap (λ b. cond b (Some old.count) None) ((bytes_eq-Decides name name).1 refl)))
+      let placed = placed_none (bytes_eq name) 0 old.count (names_in lines) name (omega (arith, holds.count)) none in (
+        record {
+          numbers = defines.0;
+          count = defines.1;
+          records = r ∙ (ap (λ l. l ++ form.record_of name [] ∷ []) holds.records ∙ (ap (λ own. map (λ name. form.record_of name (own_lines name lines)) (names_in lines) ++ form.record_of name own ∷ []) (sym own)
+              ∙ (sym (map-append (λ name. form.record_of name (own_lines name lines)) (names_in lines) (name ∷ [])) ∙ ap (map (λ name. form.record_of name (own_lines name lines))) (sym added))));
+          states = s ∙ (ap (λ l. l ++ form.state_of [] ∷ []) holds.states ∙ (ap (λ own. map (λ name. form.state_of (own_lines name lines)) (names_in lines) ++ form.state_of own ∷ []) (sym own)
+              ∙ (sym (map-append (λ name. form.state_of (own_lines name lines)) (names_in lines) (name ∷ [])) ∙ ap (map (λ name. form.state_of (own_lines name lines))) (sym added))));
+        },
+        ap (λ names. number_in names name) added ∙ (placed ∙ ap (λ b. cond b (Some old.count) None) ((bytes_eq-Decides name name).1 refl)),
+      )
 
   -- the record of a name at its place, and the records where a line is added to it
   pub record_there : (held : Held R S) (names : List (List ℕ)) (lines : List Line) (name : List ℕ) (k : ℕ) (default : R) → HoldsNames form names lines held → number_in names name ≡ Some k → get_or held.records k default ≡ form.record_of name (own_lines name lines)
@@ -86,9 +88,10 @@ module _ {R S : Type 0} (form : ChainForm R S) where
 
   pub record_within : (held : Held R S) (names : List (List ℕ)) (lines : List Line) (name : List ℕ) (k : ℕ) → HoldsNames form names lines held → number_in names name ≡ Some k → (k < length held.records) × (k < length held.states)
   record_within held names lines name k holds number =
-      let within = (at_number (λ (name : List ℕ). name) names name k [] number).1 in
-      (omega (arith, ap length holds.records, length-map names (λ name. form.record_of name (own_lines name lines)), within),
-       omega (arith, ap length holds.states, length-map names (λ name. form.state_of (own_lines name lines)), within))
+      let within = (at_number (λ (name : List ℕ). name) names name k [] number).1 in (
+        omega (arith, ap length holds.records, length-map names (λ name. form.record_of name (own_lines name lines)), within),
+        omega (arith, ap length holds.states, length-map names (λ name. form.state_of (own_lines name lines)), within),
+      )
 
   pub line_added : (old new : Held R S) (names : List (List ℕ)) (lines : List Line) (line : Line) (name : List ℕ) (k : ℕ) → HoldsNames form names lines old → AreDistinct names → number_in names name ≡ Some k → name ≡ line_name line
       → numbers_of new.names ≡ numbers_of old.names → new.count ≡ old.count

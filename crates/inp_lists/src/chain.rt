@@ -12,6 +12,7 @@ use std::alloc::Global;
 /// name before it.
 pub trait Chain {
     type Record: Drop;
+
     type State: Copy + Drop;
 
     ghost form: { Self → ChainForm Self.Record Self.State };

@@ -14,8 +14,7 @@ ghost use Rattle.inp_lists.specs.Holding.{AreDistinct, AreNamed, HoldsLines, Hol
 use crate::chain::{Chain, fault, text_at};
 use crate::held::Held;
 use inp_lines::{
-    Fault, Line, Names, Naming, add_fault, add_first, naming_at, no_names, number_of,
-    too_few,
+    Fault, Line, Names, Naming, add_fault, add_first, naming_at, no_names, number_of, too_few,
 };
 use net_types::{FaultKind, LineFault, List, OutOfMemory};
 use std::alloc::Global;
@@ -251,8 +250,8 @@ fn place_of<'a, C: Chain>(
         → HoldsNames (C.form chain.now) (names_in lines) lines held.old → AreNamed lines
         → is_over (naming_among (names_in lines) name.now) ≡ false
         → HoldsNames (C.form chain.now) (with_first (names_in lines) name.now) lines held.new
-            × (number_in (with_first (names_in lines) name.now) name.now ≡ Some place)
-            × (held.new.total ≡ held.old.total)) }
+        × (number_in (with_first (names_in lines) name.now) name.now ≡ Some place)
+        × (held.new.total ≡ held.old.total)) }
 {
     match number_of(&held.names, name) {
         Some(number) => Ok(number),
@@ -271,8 +270,8 @@ fn define<'a, C: Chain>(
         → HoldsNames (C.form chain.now) (names_in lines) lines held.old → AreNamed lines
         → is_over (naming_among (names_in lines) name.now) ≡ false
         → HoldsNames (C.form chain.now) (with_first (names_in lines) name.now) lines held.new
-            × (number_in (with_first (names_in lines) name.now) name.now ≡ Some place)
-            × (held.new.total ≡ held.old.total)) }
+        × (number_in (with_first (names_in lines) name.now) name.now ≡ Some place)
+        × (held.new.total ≡ held.old.total)) }
 {
     let number = held.count;
     held.count = add_first(&mut held.names, name, number)?;
@@ -296,7 +295,7 @@ fn add_line<'a, C: Chain>(
         → number_in names name ≡ Some place → name ≡ line_name line.now
         → state ≡ (C.form chain.now).state_of (own_lines name lines)
         → HoldsNames (C.form chain.now) names (lines ++ line.now ∷ []) held.new
-            × (held.new.total ≡ held.old.total)) }
+        × (held.new.total ≡ held.old.total)) }
 {
     let place = place as usize;
     if place >= held.records.as_slice().len() {

@@ -50,7 +50,7 @@ module _ (axis : List Line → Line → Axis) (items : List Line → Line → Li
       let are = pairs_mean (axis own line) (last_or None (all_xs own)) place (items own line) even.0 none in
       let values : all_values (own ++ line ∷ []) ≡ all_values own ++ here = gather_push (λ before line. values_of (axis before line) (items before line)) own line in
       let xs : last_or None (all_xs (own ++ line ∷ [])) ≡ last_or (last_or None (all_xs own)) (xs_of (axis own line) (items own line)) =
-          ap (last_or None) (gather_push (λ before line. xs_of (axis before line) (items before line)) own line) ∙ last_append None (all_xs own) (xs_of (axis own line) (items own line)) in
+      ap (last_or None) (gather_push (λ before line. xs_of (axis before line) (items before line)) own line) ∙ last_append None (all_xs own) (xs_of (axis own line) (items own line)) in
       let up = pairs_rise (axis own line) (last_or None (all_xs own)) place (items own line) (all_values own) none good.rises in
       record {
         means = subst (GivePairs axis items [] (own ++ line ∷ [])) (sym values) (give_push [] own line (all_values own) here good.means are);

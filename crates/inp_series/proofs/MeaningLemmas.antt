@@ -70,14 +70,14 @@ unfolding series_form chain_records chain_names
 series_mean start lines none =
     let good = series_good start (λ pair. ⊤) (λ own line a b x y p q. tt) lines none in
     let each : (name : List ℕ) → IsSeries start name (own_lines name (kept (series_form start) lines)) (series_from start name (own_lines name (kept (series_form start) lines))) =
-        λ name. record { name_is = refl; dated_is = refl; entries_are = (good name).means } in
+    λ name. record { name_is = refl; dated_is = refl; entries_are = (good name).means } in
     subst (λ l. AllZip (λ name made. IsSeries start name (own_lines name l) made) (names_in l) (series_of start lines)) (kept_whole (series_form start) lines none)
     (zip_map (λ name made. IsSeries start name (own_lines name (kept (series_form start) lines)) made) (λ name. series_from start name (own_lines name (kept (series_form start) lines))) (names_in (kept (series_form start) lines)) each)
 
 pub series_one : (start : ℤ) (lines : List Line) (a b : List Series) → MeanSeries start lines a → MeanSeries start lines b → a ≡ b
 series_one start lines a b p q = zip_unique (λ name made. IsSeries start name (own_lines name (filter is_series_line lines)) made)
     (λ name r s h k. same_series r s (h.name_is ∙ sym k.name_is) (h.dated_is ∙ sym k.dated_is)
-        (give_unique (axis_at start) (λ before line. series_pairs line) [] (own_lines name (filter is_series_line lines)) r.entries s.entries h.entries_are k.entries_are))
+    (give_unique (axis_at start) (λ before line. series_pairs line) [] (own_lines name (filter is_series_line lines)) r.entries s.entries h.entries_are k.entries_are))
     (names_in (filter is_series_line lines)) a b p q
 
 -- which are sound
@@ -127,9 +127,10 @@ typed_push (first ∷ own) line is none = record { typed = λ some. is.typed (om
 
 curve_step : (own : List Line) (line : Line) → AreGood (λ before line. Amounts) curve_pairs PointInRange own × IsTyped own → are_no_pairs (length line.tokens - curve_place own) ≡ false → curve_fault_in own line ≡ None → AreGood (λ before line. Amounts) curve_pairs PointInRange (own ++ line ∷ []) × IsTyped (own ++ line ∷ [])
 curve_step own line good short none =
-    let two = or_none (cond (is_first own) (kind_fault (kind_of (token_at line.tokens 1))) None) (pairs_fault Amounts (last_or None (xs_in own)) (curve_place own) (curve_pairs own line)) none in
-    (good_push (λ before line. Amounts) curve_pairs PointInRange own line (curve_place own) (λ a b x y p q. record { x_in = amount_in a x p; y_in = amount_in b y q }) good.0 (curve_paired own line short) two.1,
-     typed_push own line good.1 two.0)
+    let two = or_none (cond (is_first own) (kind_fault (kind_of (token_at line.tokens 1))) None) (pairs_fault Amounts (last_or None (xs_in own)) (curve_place own) (curve_pairs own line)) none in (
+      good_push (λ before line. Amounts) curve_pairs PointInRange own line (curve_place own) (λ a b x y p q. record { x_in = amount_in a x p; y_in = amount_in b y q }) good.0 (curve_paired own line short) two.1,
+      typed_push own line good.1 two.0,
+    )
 
 curve_good : (lines : List Line) → gather curve_fault [] lines ≡ [] → (name : List ℕ) → AreGood (λ before line. Amounts) curve_pairs PointInRange (own_lines name (kept curve_form lines)) × IsTyped (own_lines name (kept curve_form lines))
 unfolding curve_form
@@ -148,14 +149,14 @@ unfolding curve_form chain_records chain_names
 curves_mean lines none =
     let good = curve_good lines none in
     let each : (name : List ℕ) → 1 ≤ length (own_lines name (kept curve_form lines)) → IsCurve name (own_lines name (kept curve_form lines)) (curve_from name (own_lines name (kept curve_form lines))) =
-        λ name some. let kind = (good name).1.typed some in record { name_is = refl; kind_is = kind.1 ∙ ap Some (sym (or_else (kind_in (own_lines name (kept curve_form lines))) kind.0 kind.1)); points_are = (good name).0.means } in
+    λ name some. let kind = (good name).1.typed some in record { name_is = refl; kind_is = kind.1 ∙ ap Some (sym (or_else (kind_in (own_lines name (kept curve_form lines))) kind.0 kind.1)); points_are = (good name).0.means } in
     subst (λ l. AllZip (λ name made. IsCurve name (own_lines name l) made) (names_in l) (curves_of lines)) (kept_whole curve_form lines none)
     (zip_some (λ name. 1 ≤ length (own_lines name (kept curve_form lines))) (λ name made. IsCurve name (own_lines name (kept curve_form lines)) made) (λ name. curve_from name (own_lines name (kept curve_form lines))) (names_in (kept curve_form lines)) each (own_some curve_form lines))
 
 pub curves_one : (lines : List Line) (a b : List Curve) → MeanCurves lines a → MeanCurves lines b → a ≡ b
 curves_one lines a b p q = zip_unique (λ name made. IsCurve name (own_lines name (filter is_curve_line lines)) made)
     (λ name r s h k. same_curve r s (h.name_is ∙ sym k.name_is) (let same : Some r.kind ≡ Some s.kind = sym h.kind_is ∙ k.kind_is in cc)
-        (give_unique (λ before line. Amounts) curve_pairs [] (own_lines name (filter is_curve_line lines)) r.points s.points h.points_are k.points_are))
+    (give_unique (λ before line. Amounts) curve_pairs [] (own_lines name (filter is_curve_line lines)) r.points s.points h.points_are k.points_are))
     (names_in (filter is_curve_line lines)) a b p q
 
 pub curves_in_range : (lines : List Line) → gather curve_fault [] lines ≡ [] → All CurveInRange (curves_of lines)

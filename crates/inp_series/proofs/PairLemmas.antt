@@ -139,26 +139,26 @@ at_new pairs pair k e =
 
 rises_push : (pairs : List (ℤ × ℤ)) (last : Option ℤ) (x y : ℤ) → Rises pairs last → follows last x ≡ true → Rises (pairs ++ (x, y) ∷ []) (Some x)
 rises_push pairs last x y up greater = record {
-    rising = record { each = λ i j lt within. rise i j lt (cases j (omega (arith, within, length-append pairs ((x, y) ∷ [])))) };
-    below = λ k within. under k (cases k (omega (arith, within, length-append pairs ((x, y) ∷ []))));
-  } where
-    cases : (k : ℕ) → k < length pairs + 1 → (k < length pairs) ⊎ (k ≡ length pairs)
-    cases k h = grind (arith, h)
+  rising = record { each = λ i j lt within. rise i j lt (cases j (omega (arith, within, length-append pairs ((x, y) ∷ [])))) };
+  below = λ k within. under k (cases k (omega (arith, within, length-append pairs ((x, y) ∷ []))));
+} where
+  cases : (k : ℕ) → k < length pairs + 1 → (k < length pairs) ⊎ (k ≡ length pairs)
+  cases k h = grind (arith, h)
 
-    less : (i : ℕ) → i < length pairs → (pair_at pairs i).0 <ℤ x
-    less i within = follows_less last x (pair_at pairs i).0 greater (up.below i within)
+  less : (i : ℕ) → i < length pairs → (pair_at pairs i).0 <ℤ x
+  less i within = follows_less last x (pair_at pairs i).0 greater (up.below i within)
 
-    rise : (i j : ℕ) → i < j → (j < length pairs) ⊎ (j ≡ length pairs) → (pair_at (pairs ++ (x, y) ∷ []) i).0 <ℤ (pair_at (pairs ++ (x, y) ∷ []) j).0
-    rise i j lt (inl within) =
-        subst (λ (p : ℤ × ℤ). p.0 <ℤ (pair_at (pairs ++ (x, y) ∷ []) j).0) (sym (at_old pairs (x, y) i (omega (arith, lt, within))))
-        (subst (λ (p : ℤ × ℤ). (pair_at pairs i).0 <ℤ p.0) (sym (at_old pairs (x, y) j within)) (up.rising.each i j lt within))
-    rise i j lt (inr end) =
-        subst (λ (p : ℤ × ℤ). p.0 <ℤ (pair_at (pairs ++ (x, y) ∷ []) j).0) (sym (at_old pairs (x, y) i (omega (arith, lt, end))))
-        (subst (λ (p : ℤ × ℤ). (pair_at pairs i).0 <ℤ p.0) (sym (at_new pairs (x, y) j end)) (less i (omega (arith, lt, end))))
+  rise : (i j : ℕ) → i < j → (j < length pairs) ⊎ (j ≡ length pairs) → (pair_at (pairs ++ (x, y) ∷ []) i).0 <ℤ (pair_at (pairs ++ (x, y) ∷ []) j).0
+  rise i j lt (inl within) =
+      subst (λ (p : ℤ × ℤ). p.0 <ℤ (pair_at (pairs ++ (x, y) ∷ []) j).0) (sym (at_old pairs (x, y) i (omega (arith, lt, within))))
+      (subst (λ (p : ℤ × ℤ). (pair_at pairs i).0 <ℤ p.0) (sym (at_old pairs (x, y) j within)) (up.rising.each i j lt within))
+  rise i j lt (inr end) =
+      subst (λ (p : ℤ × ℤ). p.0 <ℤ (pair_at (pairs ++ (x, y) ∷ []) j).0) (sym (at_old pairs (x, y) i (omega (arith, lt, end))))
+      (subst (λ (p : ℤ × ℤ). (pair_at pairs i).0 <ℤ p.0) (sym (at_new pairs (x, y) j end)) (less i (omega (arith, lt, end))))
 
-    under : (k : ℕ) → (k < length pairs) ⊎ (k ≡ length pairs) → (pair_at (pairs ++ (x, y) ∷ []) k).0 ≤ℤ x
-    under k (inl within) = subst (λ (p : ℤ × ℤ). p.0 ≤ℤ x) (sym (at_old pairs (x, y) k within)) (let lt = less k within in omega (arith, ints, lt))
-    under k (inr end) = subst (λ (p : ℤ × ℤ). p.0 ≤ℤ x) (sym (at_new pairs (x, y) k end)) (omega (arith, ints))
+  under : (k : ℕ) → (k < length pairs) ⊎ (k ≡ length pairs) → (pair_at (pairs ++ (x, y) ∷ []) k).0 ≤ℤ x
+  under k (inl within) = subst (λ (p : ℤ × ℤ). p.0 ≤ℤ x) (sym (at_old pairs (x, y) k within)) (let lt = less k within in omega (arith, ints, lt))
+  under k (inr end) = subst (λ (p : ℤ × ℤ). p.0 ≤ℤ x) (sym (at_new pairs (x, y) k end)) (omega (arith, ints))
 
 -- pairs without a fault go on rising, and each lies in the ranges of its values
 pub pairs_rise : (axis : Axis) (last : Option ℤ) (place : ℕ) (items : List (List ℕ)) (pairs : List (ℤ × ℤ)) → pairs_fault axis last place items ≡ None → Rises pairs last → Rises (pairs ++ values_of axis items) (last_or last (xs_of axis items))
@@ -170,7 +170,7 @@ pairs_rise axis last place (x ∷ y ∷ items) pairs none up =
     let more : pairs_fault axis (Some one.x_value) (place + 2) items ≡ None = ap (λ o. pairs_fault axis (option_or o last) (place + 2) items) (sym one.x_is) ∙ two.1 in
     let next = pairs_rise axis (Some one.x_value) (place + 2) items (pairs ++ (one.x_value, one.y_value) ∷ []) more (rises_push pairs last one.x_value one.y_value up one.greater) in
     let split : (pairs ++ (one.x_value, one.y_value) ∷ []) ++ values_of axis items ≡ pairs ++ values_of axis (x ∷ y ∷ items) =
-        append_assoc pairs ((one.x_value, one.y_value) ∷ []) (values_of axis items) ∙ ap (λ l. pairs ++ l) (sym (ap₂ (λ a b. pair_of a b ++ values_of axis items) one.x_is one.y_is)) in
+    append_assoc pairs ((one.x_value, one.y_value) ∷ []) (values_of axis items) ∙ ap (λ l. pairs ++ l) (sym (ap₂ (λ a b. pair_of a b ++ values_of axis items) one.x_is one.y_is)) in
     let lasts : last_or (Some one.x_value) (xs_of axis items) ≡ last_or last (xs_of axis (x ∷ y ∷ items)) = sym (ap (λ o. last_or last (option_to_list o ++ xs_of axis items)) one.x_is) in
     subst (λ l. Rises l (last_or last (xs_of axis (x ∷ y ∷ items)))) split (subst (Rises ((pairs ++ (one.x_value, one.y_value) ∷ []) ++ values_of axis items)) lasts next)
 

@@ -137,14 +137,14 @@ unfolding pattern_form chain_records chain_names
 patterns_mean lines none =
     let good = pattern_good lines none in
     let each : (name : List ℕ) → 1 ≤ length (own_lines name (kept pattern_form lines)) → IsPattern name (own_lines name (kept pattern_form lines)) (pattern_from name (own_lines name (kept pattern_form lines))) =
-        λ name some. let kind = (good name).typed some in record { name_is = refl; kind_is = kind.1 ∙ ap Some (sym (or_else (pattern_kind_in (own_lines name (kept pattern_form lines))) kind.0 kind.1)); factors_are = (good name).factors } in
+    λ name some. let kind = (good name).typed some in record { name_is = refl; kind_is = kind.1 ∙ ap Some (sym (or_else (pattern_kind_in (own_lines name (kept pattern_form lines))) kind.0 kind.1)); factors_are = (good name).factors } in
     subst (λ l. AllZip (λ name made. IsPattern name (own_lines name l) made) (names_in l) (patterns_of lines)) (kept_whole pattern_form lines none)
     (zip_some (λ name. 1 ≤ length (own_lines name (kept pattern_form lines))) (λ name made. IsPattern name (own_lines name (kept pattern_form lines)) made) (λ name. pattern_from name (own_lines name (kept pattern_form lines))) (names_in (kept pattern_form lines)) each (own_some pattern_form lines))
 
 pub patterns_one : (lines : List Line) (a b : List Pattern) → MeanPatterns lines a → MeanPatterns lines b → a ≡ b
 patterns_one lines a b p q = zip_unique (λ name made. IsPattern name (own_lines name (filter is_pattern_line lines)) made)
     (λ name r s h k. same_pattern r s (h.name_is ∙ sym k.name_is) (let same : Some r.kind ≡ Some s.kind = sym h.kind_is ∙ k.kind_is in cc)
-        (zip_unique (IsStored (unit_for Cms Coefficient)) (λ text x y u v. IsStored-unique (unit_for Cms Coefficient) text x y u v) (items_in (own_lines name (filter is_pattern_line lines))) r.factors6 s.factors6 h.factors_are k.factors_are))
+    (zip_unique (IsStored (unit_for Cms Coefficient)) (λ text x y u v. IsStored-unique (unit_for Cms Coefficient) text x y u v) (items_in (own_lines name (filter is_pattern_line lines))) r.factors6 s.factors6 h.factors_are k.factors_are))
     (names_in (filter is_pattern_line lines)) a b p q
 
 factors_in : (items : List (List ℕ)) (factors : List ℤ) → AreFactors items factors → All IsCoefficient factors
@@ -160,12 +160,12 @@ patterns_in_range lines none =
     let good = pattern_good lines none in
     all_map (λ name. 1 ≤ length (own_lines name (kept pattern_form lines))) PatternInRange (λ name. pattern_from name (own_lines name (kept pattern_form lines))) (names_in (kept pattern_form lines))
     (λ name some. (let kind = (good name).typed some in
-        let long = AllZip-long (IsStored (unit_for Cms Coefficient)) (items_in (own_lines name (kept pattern_form lines))) (filter_map factor_of (items_in (own_lines name (kept pattern_form lines)))) (good name).factors in
-        let few = (good name).few kind.0 kind.1 in
-        record {
-          few = subst (λ k. length (filter_map factor_of (items_in (own_lines name (kept pattern_form lines)))) ≤ most_factors k) (sym (or_else (pattern_kind_in (own_lines name (kept pattern_form lines))) kind.0 kind.1)) (omega (arith, long, few));
-          factors_in = factors_in (items_in (own_lines name (kept pattern_form lines))) (filter_map factor_of (items_in (own_lines name (kept pattern_form lines)))) (good name).factors;
-        })) (own_some pattern_form lines)
+    let long = AllZip-long (IsStored (unit_for Cms Coefficient)) (items_in (own_lines name (kept pattern_form lines))) (filter_map factor_of (items_in (own_lines name (kept pattern_form lines)))) (good name).factors in
+    let few = (good name).few kind.0 kind.1 in
+    record {
+      few = subst (λ k. length (filter_map factor_of (items_in (own_lines name (kept pattern_form lines)))) ≤ most_factors k) (sym (or_else (pattern_kind_in (own_lines name (kept pattern_form lines))) kind.0 kind.1)) (omega (arith, long, few));
+      factors_in = factors_in (items_in (own_lines name (kept pattern_form lines))) (filter_map factor_of (items_in (own_lines name (kept pattern_form lines)))) (good name).factors;
+    })) (own_some pattern_form lines)
 
 pub few_patterns : (lines : List Line) → length (patterns_of lines) ≤ RECORD_LIMIT
 unfolding chain_records chain_names

@@ -176,6 +176,7 @@ fn kind_or_storage(kind: Option<CurveKind>) -> CurveKind
 
 impl Chain for CurveChain {
     type Record = Curve;
+
     type State = CurveState;
 
     ghost form = { λ _. curve_form };

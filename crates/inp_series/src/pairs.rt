@@ -219,11 +219,7 @@ pub(crate) fn add_pairs(
 }
 
 /// Appends a pair, if both its items have values.
-fn add_pair(
-    x: Option<i64>,
-    y: Option<i64>,
-    pairs: &mut List<(i64, i64)>,
-) -> Result<(), OutOfMemory>
+fn add_pair(x: Option<i64>, y: Option<i64>, pairs: &mut List<(i64, i64)>) -> Result<(), OutOfMemory>
     ensures { OnOk result (pairs.new ≡ pairs.old ++ pair_of x y) }
 {
     let Some(x) = x else {

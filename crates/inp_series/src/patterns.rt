@@ -257,6 +257,7 @@ fn kind_or_monthly(kind: Option<PatternKind>) -> PatternKind
 
 impl Chain for PatternChain {
     type Record = Pattern;
+
     type State = PatternState;
 
     ghost form = { λ _. pattern_form };

@@ -126,11 +126,17 @@ fn fault_of_line(start: i64, date: Option<i32>, last: Option<i64>, line: &Line) 
     if is_file(line) {
         return Some(fault(FaultKind::NotInProfile, 1));
     }
-    pairs_fault(Axis::Hours(start, date), last, place_of(line), line.tokens.as_slice())
+    pairs_fault(
+        Axis::Hours(start, date),
+        last,
+        place_of(line),
+        line.tokens.as_slice(),
+    )
 }
 
 impl Chain for SeriesChain {
     type Record = Series;
+
     type State = SeriesState;
 
     ghost form = { λ chain. series_form chain.start };

@@ -14,7 +14,9 @@ returns-then-place-as_slice-2 g c = λ names name lines holds apart number is st
 pub returns : goal.returns
 returns g c = λ names name lines holds apart number is state.
     (let form = g.C.Chain.form c.args.chain.now in
-    let own = own_lines name lines in
-    (line_added form c.args.held.now _ names lines c.args.line.now name c.args.place holds apart number is refl refl
-        (c.in_ok-next.ensures.record name own (record_there form c.args.held.now names lines name c.args.place (form.record_of name own) holds number) state)
-        (c.set_at.ensures ∙ ap (λ next. set c.args.held.now.states c.args.place next) (c.in_ok-next.ensures.state own state)), refl))
+    let own = own_lines name lines in (
+      line_added form c.args.held.now _ names lines c.args.line.now name c.args.place holds apart number is refl refl
+          (c.in_ok-next.ensures.record name own (record_there form c.args.held.now names lines name c.args.place (form.record_of name own) holds number) state)
+          (c.set_at.ensures ∙ ap (λ next. set c.args.held.now.states c.args.place next) (c.in_ok-next.ensures.state own state)),
+      refl,
+    ))

@@ -21,7 +21,7 @@ loop-x-preserved c =
     let rest = c.loop-x.rest.now in
     let more = c.in-Some.more.now in
     let none : pair_fault axis last (count - length rest) (x_of axis c.in-Some.x.now) (amount_of c.in-Some.y.now) ≡ None =
-        sym (c.in-None.ensures ∙ ap₂ (λ a b. pair_fault axis last (count - length rest) a b) c.x_value-value.ensures c.amount.ensures) in
+    sym (c.in-None.ensures ∙ ap₂ (λ a b. pair_fault axis last (count - length rest) a b) c.x_value-value.ensures c.amount.ensures) in
     record {
       within = omega (arith, ap length c.in-Some.ensures, c.loop-x.invariant.within);
       same = ap (λ o. pairs_fault axis o (count - length more) more) (c.later-last.ensures ∙ ap (λ a. option_or a last) c.x_value-value.ensures)
@@ -33,7 +33,7 @@ returns-in-Some-pair_fault c =
     let axis = c.args.axis in
     let place = length c.args.tokens.now - length c.loop-x.rest.now in
     pairs_found axis c.loop-x.last place c.loop-x.rest.now c.in-Some.x.now c.in-Some.y.now c.in-Some.more.now c.in-Some-pair_fault.found c.in-Some.ensures
-        (sym (c.in-Some-pair_fault.ensures ∙ ap₂ (λ a b. pair_fault axis c.loop-x.last place a b) c.x_value-value.ensures c.amount.ensures)) ∙ c.loop-x.invariant.same
+    (sym (c.in-Some-pair_fault.ensures ∙ ap₂ (λ a b. pair_fault axis c.loop-x.last place a b) c.x_value-value.ensures c.amount.ensures)) ∙ c.loop-x.invariant.same
 
 pub returns : goal.returns
 returns c = pairs_end c.args.axis c.loop-x.last (length c.args.tokens.now - length c.loop-x.rest.now) c.loop-x.rest.now c.in_default.ensures ∙ c.loop-x.invariant.same

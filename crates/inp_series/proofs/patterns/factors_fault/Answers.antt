@@ -25,7 +25,7 @@ loop-text-preserved c =
 pub returns-in-Some-factor_fault : goal.returns-in-Some-factor_fault
 returns-in-Some-factor_fault c =
     factors_found c.loop-text.left (length c.args.tokens.now - length c.loop-text.rest.now) c.loop-text.rest.now c.in-Some.text.now c.in-Some.more.now c.in-Some-factor_fault.found c.in-Some.ensures
-        (sym c.in-Some-factor_fault.ensures) ∙ c.loop-text.invariant.same
+    (sym c.in-Some-factor_fault.ensures) ∙ c.loop-text.invariant.same
 
 pub returns : goal.returns
 returns c = factors_end c.loop-text.left (length c.args.tokens.now - length c.loop-text.rest.now) c.loop-text.rest.now c.in_default.ensures ∙ c.loop-text.invariant.same

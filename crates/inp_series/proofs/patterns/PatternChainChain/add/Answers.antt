@@ -15,8 +15,8 @@ returns-clause-record c = λ name own p e.
     let kind : c.kind_with-kind.result ≡ pattern_kind_in (own ++ line ∷ []) = c.kind_with-kind.ensures ∙ (ap (λ s. cond s.first (pattern_kind_of (token_at line.tokens 1)) s.kind) e ∙ sym (pattern_kind_push own line)) in
     let items : c.factors_of-factors.result.now ≡ factor_items own line = c.factors_of-factors.ensures ∙ ap (λ s. drop (cond s.first 2 1) line.tokens) e in
     same_pattern _ _ (ap (λ m. m.name) p)
-        (c.kind_or_monthly.ensures ∙ ap (λ k. unwrap_or k Monthly) kind)
-        (c.in_ok-add_factors.ensures ∙ (ap₂ (λ l v. l ++ filter_map factor_of v) (ap (λ m. m.factors6) p) items ∙ sym (factors_push own line))))
+    (c.kind_or_monthly.ensures ∙ ap (λ k. unwrap_or k Monthly) kind)
+    (c.in_ok-add_factors.ensures ∙ (ap₂ (λ l v. l ++ filter_map factor_of v) (ap (λ m. m.factors6) p) items ∙ sym (factors_push own line))))
 
 pub returns-clause-state : goal.returns-clause-state
 unfolding pattern_form
@@ -26,4 +26,4 @@ returns-clause-state c = λ own e.
     let left : c.left_with-left.result ≡ factors_left (kind_with own line) (length (items_in own)) = c.left_with-left.ensures ∙ (ap (λ s. cond s.first (factors_left c.kind_with-kind.result 0) s.left) e ∙ left_is own line c.kind_with-kind.result kind) in
     let items : c.factors_of-factors.result.now ≡ factor_items own line = c.factors_of-factors.ensures ∙ ap (λ s. drop (cond s.first 2 1) line.tokens) e in
     same_pattern_state _ _ (sym (first_push own line)) (kind ∙ sym (pattern_kind_push own line))
-        (c.less.ensures ∙ (ap₂ (λ o n. option_map (λ left. left - n) o) left (ap length items) ∙ sym (left_push own line))))
+    (c.less.ensures ∙ (ap₂ (λ o n. option_map (λ left. left - n) o) left (ap length items) ∙ sym (left_push own line))))
