@@ -1,0 +1,5 @@
+pub mod BalanceLemmas
+pub mod AccountLemmas
+pub mod RunLemmas
+pub mod NodeLemmas
+pub mod TimeLemmas
