@@ -88,7 +88,7 @@ all_mapped P Q f (x ∷ xs) h all (suc k) d g =
     all_mapped P Q f xs h (later_all P x xs all) k d (omega (arith, g))
 
 all_appended : (P : ℤ → Type 0) (xs ys : List ℤ) → All P xs → All P ys → All P (xs ++ ys)
-all_appended P [] ys a b = b
+all_appended P [] ys a b k d g = b k d g
 all_appended P (x ∷ xs) ys a b zero d g = a 0 x (omega arith)
 all_appended P (x ∷ xs) ys a b (suc k) d g =
     all_appended P xs ys (later_all P x xs a) b k d (omega (arith, g))

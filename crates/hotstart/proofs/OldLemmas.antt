@@ -124,18 +124,19 @@ state_back project heads flows settings h =
     (column file (28 + 8 * length project.nodes) 16 (length project.links))) (sym fs)
     ∙ ap (λ (x : List ℤ). migrated project heads flows x) (sym ss)
 
+abbrev shape_with : Project → (nodes links : ℕ) → Shape
+shape_with project n m = record {
+  nodes = n;
+  links = m;
+  subs = length project.subs;
+  kind = kind_of project.subs project.options.infil;
+}
+
 shape_same : (project : Project) (heads flows : List ℤ) → length heads ≡ length project.nodes
     → length flows ≡ length project.links → shape_in project heads flows ≡ shape_of project
 shape_same project heads flows a b =
-    ap (λ (n : ℕ). shape_with n (length flows)) a ∙ ap (λ (m : ℕ). shape_with (length project.nodes) m) b
-  where
-    abbrev shape_with : ℕ → ℕ → Shape
-    shape_with n m = record {
-      nodes = n;
-      links = m;
-      subs = length project.subs;
-      kind = kind_of project.subs project.options.infil;
-    }
+    ap (λ (n : ℕ). shape_with project n (length flows)) a
+    ∙ ap (λ (m : ℕ). shape_with project (length project.nodes) m) b
 
 pub old_back : (project : Project) (heads flows settings : List ℤ) → IsSound project
     → AreNetsFor project heads flows settings

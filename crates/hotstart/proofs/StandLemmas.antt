@@ -66,7 +66,7 @@ stands_item {A} f wide {file} {place} (x ∷ xs) all s (suc k) d h =
     let rest = stands_rest {next = place + wide} (f x) (flat_map f xs) s (omega (arith, first)) in
     let same : place + wide + wide * k ≡ place + wide * suc k = omega arith in
     subst (λ (p : ℕ). Stands file p (f (get_or xs k d))) same
-    (stands_item f wide xs (later_all (λ (y : A). length (f y) ≡ wide) x xs all) rest k d (omega (arith, h)))
+    (stands_item f wide {place = place + wide} xs (later_all (λ (y : A). length (f y) ≡ wide) x xs all) rest k d (omega (arith, h)))
 
 -- ---- numbers
 pub number_stands : {file : List ℕ} {place : ℕ} (bytes n : ℕ) → Stands file place (little_bytes bytes n)

@@ -21,9 +21,11 @@ pub sum_more : {A : Type 0} (f : A → ℤ) (items : List A) (k : ℕ) (d : A) �
 sum_more f items k d h = rw (take_more items k d h) (sum_snoc f (take k items) (get_or items k d))
 
 -- the error of the sums of the first k steps
-error_within : {p q r s a b c d : ℤ} (k : ℕ) → IsWithin (6 * k) (error_of p q r s) → IsWithin 6 (error_of a b c d)
-    → IsWithin (6 * (k + 1)) (error_of (p +ℤ a) (q +ℤ b) (r +ℤ c) (s +ℤ d))
-error_within k h g = record { within = omega (arith, ints, h.within, g.within) }
+error_within : (sums step : SubStep) (k : ℕ)
+    → IsWithin (6 * k) (error_of sums.rain sums.infil sums.runoff sums.stored) → IsClosed step
+    → IsWithin (6 * (k + 1)) (error_of (sums.rain +ℤ step.rain) (sums.infil +ℤ step.infil)
+    (sums.runoff +ℤ step.runoff) (sums.stored +ℤ step.stored))
+error_within sums step k h g = record { within = omega (arith, ints, h.within, g.within) }
 
 -- where the loop over steps stands after k of them
 pub record Summed (steps : List SubStep) (sums : SubStep) (k : ℕ) : Type 0 where
@@ -67,5 +69,5 @@ summed_more {steps} {sums} {k} s d h range = record {
     runoff = within_more k s.range.runoff range.runoff;
     stored = within_more k s.range.stored range.stored;
   };
-  closed = λ all. error_within k (s.closed all) (All-get_or IsClosed steps k d h all);
+  closed = λ all. error_within sums (get_or steps k d) k (s.closed all) (All-get_or IsClosed steps k d h all);
 }

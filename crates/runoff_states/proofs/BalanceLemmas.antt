@@ -12,21 +12,18 @@ use Rattle.net_types.specs.declared.hydrology.Sub.{Sub}
 use Rattle.runoff.specs.Overland.{depth_after, left_of, outflow_of, runoff_of, substep_of, substeps}
 use Rattle.runoff.specs.RunoffStep.{bare_step_of, paved_step_of, pervious_step_of, sub_step_of, subarea_step_of}
 use Rattle.runoff.specs.RunoffStep.{volume_of}
-use Rattle.runoff.specs.declared.overland.Cover.{Cover}
-use Rattle.runoff.specs.declared.overland.Plane.{Plane}
 use Rattle.runoff.specs.declared.states.SubState.{SubState}
 use Rattle.runoff.specs.declared.states.SubStep.{SubStep}
-use Rattle.runoff.specs.declared.subareas.Subarea.{Subarea}
 use Rattle.runoff_states.specs.RunoffAccount.{error_of, IsClosed}
 
 -- what is left after some substeps and what ran off in them is what there was
-kept_after : (plane : Plane) (cover : Cover) (ms depth : ℤ) (k : ℕ)
+kept_after : (plane : _) (cover : _) (ms depth : ℤ) (k : ℕ)
     → depth_after plane cover ms depth k
     +ℤ sum_below (λ j. outflow_of plane cover (substep_of ms) (depth_after plane cover ms depth j)) k ≡ depth
 kept_after plane cover ms depth zero = omega (arith, ints)
 kept_after plane cover ms depth (suc k) = omega (arith, ints, kept_after plane cover ms depth k)
 
-left_and_runoff : (plane : Plane) (cover : Cover) (ms depth : ℤ)
+left_and_runoff : (plane : _) (cover : _) (ms depth : ℤ)
     → left_of plane cover ms depth +ℤ runoff_of plane cover ms depth ≡ depth
 unfolding left_of runoff_of
 left_and_runoff plane cover ms depth = kept_after plane cover ms depth substeps
@@ -59,7 +56,7 @@ products area rain taken runoff left depth h =
     omega (arith, ints, first, second, third, same, other)
 
 -- what became of the rain on a subarea
-subarea_closed : (plane : Plane) (subarea : Subarea) (rain depth taken ms : ℤ) → (v : SubStep)
+subarea_closed : (plane : _) (subarea : _) (rain depth taken ms : ℤ) → (v : SubStep)
     → v ≡ (subarea_step_of plane subarea rain depth taken ms).volumes
     → IsWithin 2 (error_of v.rain v.infil v.runoff v.stored)
 unfolding subarea_step_of
