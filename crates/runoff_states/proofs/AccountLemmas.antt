@@ -71,3 +71,35 @@ summed_more {steps} {sums} {k} s d h range = record {
   };
   closed = λ all. error_within sums (get_or steps k d) k (s.closed all) (All-get_or IsClosed steps k d h all);
 }
+
+-- the sums of the steps of at most 20,000 subcatchments
+pub few_fit : {steps : List SubStep} {sums : SubStep} {k : ℕ} → Summed steps sums k → k ≤ 20_000
+    → HasVolumesWithin (2 * 10 ^ 32) sums
+few_fit s h = record {
+  rain = record { within = omega (arith, s.range.rain.within, h) };
+  infil = record { within = omega (arith, s.range.infil.within, h) };
+  runoff = record { within = omega (arith, s.range.runoff.within, h) };
+  stored = record { within = omega (arith, s.range.stored.within, h) };
+}
+
+-- what a step past the end of a list is read as
+abbrev pub no_step : SubStep
+no_step = record { rain = pos 0; infil = pos 0; runoff = pos 0; stored = pos 0 }
+
+-- the rain is what its error leaves
+remainder : (x y rest : ℤ) → rest ≡ x -ℤ y → x ≡ y +ℤ rest
+remainder x y rest h = omega (arith, ints, h)
+
+closing : (r i f s e : ℤ) → e ≡ error_of r i f s → r ≡ i +ℤ f +ℤ s +ℤ e
+closing r i f s e h =
+    let first : r ≡ i +ℤ (r -ℤ i) = remainder r i (r -ℤ i) refl in
+    let second : r -ℤ i ≡ f +ℤ (r -ℤ i -ℤ f) = remainder (r -ℤ i) f (r -ℤ i -ℤ f) refl in
+    let third : r -ℤ i -ℤ f ≡ s +ℤ e = remainder (r -ℤ i -ℤ f) s e h in
+    first ∙ ap (λ (x : ℤ). i +ℤ x) (second ∙ ap (λ (x : ℤ). f +ℤ x) third) ∙ grouped i f s e
+  where
+    grouped : (a b c d : ℤ) → a +ℤ (b +ℤ (c +ℤ d)) ≡ a +ℤ b +ℤ c +ℤ d
+    grouped a b c d = omega (arith, ints)
+
+pub balances : (rain infil runoff stored error r i f s : ℤ) → rain ≡ r → infil ≡ i → runoff ≡ f → stored ≡ s
+    → error ≡ error_of r i f s → rain ≡ infil +ℤ runoff +ℤ stored +ℤ error
+balances rain infil runoff stored error r i f s a b c d e = rw (a, b, c, d) (closing r i f s error e)

@@ -3,3 +3,4 @@ pub mod AccountLemmas
 pub mod RunLemmas
 pub mod NodeLemmas
 pub mod TimeLemmas
+pub mod OpenLemmas

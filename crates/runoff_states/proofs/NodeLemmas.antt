@@ -1,6 +1,6 @@
 -- The walk over the subcatchments that adds their flows at their outlets.
-use Rattle.std.proofs.Common.{◌≡◌, ℕ, zero, suc, ◌+◌, ◌*◌, ◌^◌, ◌<◌, ◌≤◌, eqb, true, false, List, length, get_or, set}
-use Rattle.std.proofs.Common.{ℤ, pos, ◌+ℤ◌, refl, sym, ◌∙◌, subst, arith, inl, inr}
+use Rattle.std.proofs.Common.{◌≡◌, ℕ, zero, suc, ◌+◌, ◌*◌, ◌^◌, ◌<◌, ◌≤◌, eqb, true, false, List, [], length, get_or, set}
+use Rattle.std.proofs.Common.{ℤ, pos, ◌+ℤ◌, refl, sym, ap, ◌∙◌, subst, arith, inl, inr}
 use Rattle.std.proofs.lemmas.Bool.{cases_eq}
 use Rattle.std.proofs.lemmas.Bool.Decides.{nat_tests}
 use Rattle.std.proofs.lemmas.Int.{ints}
@@ -9,6 +9,8 @@ use Rattle.fixed_num.specs.Lists.{number}
 use Rattle.fixed_num.specs.Ranges.{IsBetween, IsWithin}
 use Rattle.fixed_num.specs.Sums.{sum_below}
 use Rattle.fixed_num.proofs.SignedSums.{sum_next}
+use Rattle.std.specs.List.{All}
+use Rattle.net_types.specs.Sound.{SubNames}
 use Rattle.net_types.specs.declared.project.Project.{Project}
 use Rattle.runoff.specs.declared.states.SubState.{SubState}
 use Rattle.runoff_states.specs.RunoffStates.{state_at, sub_at}
@@ -79,3 +81,14 @@ pub flow_elsewhere : (project : Project) (state : SubState) (node k n : ℕ) →
     → (n ≡ node → ⊥) → flow_to project n state k ≡ pos 0
 flow_elsewhere project state node k n e other =
     let differs : eqb (sub_at project.subs k).outlet n ≡ false = grind (arith, nat_tests) in rw differs refl
+
+-- the walk at its end
+pub walked_all : {part : ℕ → ℕ → ℤ} {old new : List ℤ} {k : ℕ} → Walked part old new k → (count : ℕ) → k ≡ count
+    → (n : ℕ) → n < length old → number new n ≡ number old n +ℤ sum_below (part n) count
+walked_all {part} {old} w count e n inside =
+    w.each n inside ∙ ap (λ (j : ℕ). number old n +ℤ sum_below (part n) j) e
+
+-- a subcatchment's outlet is a node of its project
+pub outlet_inside : (project : Project) (k node : ℕ) → All (SubNames project) project.subs → k < length project.subs
+    → node ≡ (sub_at project.subs k).outlet → node < length project.nodes
+outlet_inside project k node names h e = let there = (names k (sub_at [] 0) h).outlet in omega (arith, there, e)

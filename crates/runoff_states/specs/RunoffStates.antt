@@ -1,5 +1,6 @@
 -- The states of runoff of a project's subcatchments over the steps of a run (this project's profile).
-use Rattle.std.specs.Prelude.{◌≡◌, ℕ, zero, suc, ◌<◌, List, [], length, slice_index_or, None, ℤ, pos, ◌*ℤ◌, ◌^◌}
+use Rattle.std.specs.Prelude.{◌≡◌, ℕ, zero, suc, ◌<◌, List, [], length, slice_index_or, None}
+use Rattle.std.specs.Prelude.{ℤ, pos, ◌*ℤ◌, ◌^◌}
 use Rattle.std.specs.List.{All}
 use Rattle.infiltration.specs.Horton.{horton_start}
 use Rattle.infiltration.specs.Infiltration.{IsInfil}
@@ -71,7 +72,8 @@ abbrev pub opening_state : Project → (kept : List SubState) → ℕ → SubSta
 opening_state project kept k = opening_of_sub (sub_at project.subs k) (state_at kept k)
 
 -- states are those of such a run after so many steps, one for each subcatchment
-pub record AreStates (project : Project) (start : ℕ → SubState) (steps : ℕ) (states : List SubState) : Type 0 where
+pub record AreStates (project : Project) (start : ℕ → SubState) (steps : ℕ) (states : List SubState)
+    : Type 0 where
   pub each_sub : length states ≡ length project.subs
   pub is : (k : ℕ) → k < length project.subs → state_at states k ≡ runoff_state project start steps k
 

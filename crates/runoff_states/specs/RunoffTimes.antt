@@ -1,6 +1,6 @@
 -- Which steps of runoff are done at a moment of a run, and the runoff that holds there (this project's profile).
-use Rattle.std.specs.Prelude.{◌≡◌, ℕ, ◌+◌, ◌/◌, ℤ, pos, ◌+ℤ◌, ◌*ℤ◌, ◌≤ℤ◌, ◌<ℤ◌, unsigned_abs, length, if◌then◌else◌}
-use Rattle.std.specs.Prelude.{◌==◌}
+use Rattle.std.specs.Prelude.{ℕ, ◌+◌, ◌/◌, ◌==◌, ℤ, pos, ◌*ℤ◌, ◌≤ℤ◌, ◌<ℤ◌, unsigned_abs}
+use Rattle.std.specs.Prelude.{length, if◌then◌else◌}
 use Rattle.fixed_num.specs.Sums.{sum_below}
 use Rattle.net_types.specs.declared.project.Project.{Project}
 use Rattle.runoff.specs.declared.states.SubState.{SubState}

@@ -19,8 +19,8 @@ pub struct RunoffAccount {
     pub error: i128,
 }
 
-/// The account of a step of runoff, of what the rain became on each subcatchment (up to 20,000). It balances, and its error is at
-/// most 6 mm³ a subcatchment where that is so of each.
+/// The account of a step of runoff, of what the rain became on each subcatchment (up to 20,000). It balances, and its
+/// error is at most 6 mm³ a subcatchment where that is so of each.
 ///
 /// Source: this project's profile.
 pub fn step_account(steps: &[SubStep]) -> RunoffAccount

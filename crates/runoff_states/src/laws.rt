@@ -8,8 +8,8 @@ ghost use Rattle.runoff.specs.declared.states.SubState.{SubState as StateOf};
 ghost use Rattle.runoff_states.specs.RunoffAccount.{IsClosed};
 ghost use Rattle.runoff_states.specs.RunoffTimes.{AreDone, runoff_at, steps_done};
 
-/// Law: a step of a subcatchment loses and makes no water: what the soil took, what ran off and what is stored more than
-/// before add up to the rain, but for the rounding of volumes, which is at most 6 mm³.
+/// Law: a step of a subcatchment loses and makes no water: what the soil took, what ran off and what is stored more
+/// than before add up to the rain, but for the rounding of volumes, which is at most 6 mm³.
 pub fn runoff_loses_no_water()
     ensures { (sub : SubOf) (state : StateOf) (rate ms : ℤ) → IsClosed (sub_step_of sub state rate ms) }
 {}

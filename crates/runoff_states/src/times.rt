@@ -3,8 +3,8 @@ ghost use Rattle.std.specs.Prelude.{◌≡◌, ℤ, pos, ◌≤ℤ◌};
 ghost use Rattle.infiltration.specs.Depths.{IsRunoffStep};
 ghost use Rattle.runoff_states.specs.RunoffTimes.{AreDone, steps_done as done_of};
 
-/// How many steps of runoff of `ms` milliseconds (1,000 to 3,600,000) are done at a moment of a run (ms since its start,
-/// not negative): those that ended at or before it.
+/// How many steps of runoff of `ms` milliseconds (1,000 to 3,600,000) are done at a moment of a run (ms since its
+/// start, not negative): those that ended at or before it.
 ///
 /// Source: this project's profile.
 pub fn steps_done(ms: i64, moment: i64) -> u64
