@@ -1,16 +1,15 @@
 -- The sums of an account.
-use Rattle.std.proofs.Common.{◌≡◌, ℕ, zero, suc, ◌+◌, ◌*◌, ◌^◌, ◌<◌, ◌≤◌, List, [], ◌∷◌, ◌++◌, length, take, get_or}
-use Rattle.std.proofs.Common.{ℤ, pos, ◌+ℤ◌, ◌-ℤ◌, refl, sym, ap, ◌∙◌, subst, arith}
+use Rattle.std.proofs.Common.{◌≡◌, ℕ, ◌+◌, ◌*◌, ◌^◌, ◌<◌, ◌≤◌, List, [], ◌∷◌, ◌++◌, length, take, get_or}
+use Rattle.std.proofs.Common.{ℤ, pos, ◌+ℤ◌, ◌-ℤ◌, refl, sym, ap, ◌∙◌, arith}
 use Rattle.std.specs.List.{All}
 use Rattle.std.proofs.lemmas.Int.{ints}
-use Rattle.std.proofs.lemmas.List.{take_more, take_all}
+use Rattle.std.proofs.lemmas.List.{take_more}
 use Rattle.std.proofs.lemmas.List.Elements.{All-get_or}
 use Rattle.fixed_num.specs.Ranges.{IsWithin}
 use Rattle.fixed_num.specs.Sums.{sum_over}
 use Rattle.runoff.specs.RunoffStep.{HasVolumesWithin, StepInRange, sum_of}
 use Rattle.runoff.specs.declared.states.SubStep.{SubStep}
 use Rattle.runoff_states.specs.RunoffAccount.{error_of, IsClosed}
-use Rattle.runoff_states.specs.RunoffStates.{step_at}
 
 sum_snoc : {A : Type 0} (f : A → ℤ) (xs : List A) (y : A) → sum_over f (xs ++ y ∷ []) ≡ sum_over f xs +ℤ f y
 sum_snoc f [] y = omega (arith, ints)

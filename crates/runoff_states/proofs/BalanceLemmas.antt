@@ -3,7 +3,7 @@ use Rattle.std.proofs.Common.{◌≡◌, ℕ, zero, suc, ◌*◌, ◌≤◌, ℤ
 use borrow.Author.Differences.{up, down, sum_is_lem}
 use Rattle.std.proofs.lemmas.Int.{ints, unsigned_abs-mul}
 use Rattle.fixed_num.specs.Ranges.{IsWithin}
-use Rattle.fixed_num.specs.Rounding.{quo_of, IsNearest}
+use Rattle.fixed_num.specs.Rounding.{quo_of}
 use Rattle.fixed_num.specs.Sums.{sum_below}
 use Rattle.fixed_num.proofs.Bounds.{within_add, within_sub, within_up}
 use Rattle.fixed_num.proofs.RoundingLemmas.{IsNearest-quo_of}
@@ -55,7 +55,7 @@ volume_near area depth =
 small_multiple : (e rest : ℤ) → e *ℤ pos 1_000_000 ≡ rest → IsWithin 2_500_000 rest → IsWithin 2 e
 small_multiple e rest h w =
     let size : unsigned_abs e * 1_000_000 ≡ unsigned_abs rest =
-        sym (unsigned_abs-mul e (pos 1_000_000)) ∙ ap unsigned_abs h in
+    sym (unsigned_abs-mul e (pos 1_000_000)) ∙ ap unsigned_abs h in
     record { within = omega (arith, size, w.within) }
 
 less : (a b c : ℤ) → a ≡ b +ℤ c → c ≡ a -ℤ b
@@ -88,7 +88,7 @@ rounded_sum : {a b c d e p q r s t : ℤ} → IsNear a p → IsNear b q → IsNe
 rounded_sum {a} {b} {c} {d} {e} {p} {q} {r} {s} {t} na nb nc nd ne h =
     let sums = rw (na.is, nb.is, nc.is, nd.is, ne.is) at h in
     let parts = rests (p *ℤ pos 1_000_000) (q *ℤ pos 1_000_000) (r *ℤ pos 1_000_000) (s *ℤ pos 1_000_000)
-        (t *ℤ pos 1_000_000) na.rest nb.rest nc.rest nd.rest ne.rest sums in
+    (t *ℤ pos 1_000_000) na.rest nb.rest nc.rest nd.rest ne.rest sums in
     small_multiple (p -ℤ q -ℤ r -ℤ (s -ℤ t)) (nd.rest +ℤ nc.rest -ℤ ne.rest -ℤ na.rest +ℤ nb.rest)
     (multiples p q r s t (pos 1_000_000) ∙ parts)
     (within_up (within_add (within_sub (within_sub (within_add nd.small nc.small) ne.small) na.small) nb.small) tt)

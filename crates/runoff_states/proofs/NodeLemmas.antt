@@ -1,5 +1,5 @@
 -- The walk over the subcatchments that adds their flows at their outlets.
-use Rattle.std.proofs.Common.{◌≡◌, ℕ, zero, suc, ◌+◌, ◌*◌, ◌^◌, ◌<◌, ◌≤◌, eqb, true, false, List, [], length, get_or, set}
+use Rattle.std.proofs.Common.{◌≡◌, ℕ, ◌+◌, ◌*◌, ◌^◌, ◌<◌, ◌≤◌, eqb, true, false, List, [], length, set}
 use Rattle.std.proofs.Common.{ℤ, pos, ◌+ℤ◌, refl, sym, ap, ◌∙◌, subst, arith, inl, inr}
 use Rattle.std.proofs.lemmas.Bool.{cases_eq}
 use Rattle.std.proofs.lemmas.Bool.Decides.{nat_tests}
@@ -13,7 +13,7 @@ use Rattle.std.specs.List.{All}
 use Rattle.net_types.specs.Sound.{SubNames}
 use Rattle.net_types.specs.declared.project.Project.{Project}
 use Rattle.runoff.specs.declared.states.SubState.{SubState}
-use Rattle.runoff_states.specs.RunoffStates.{state_at, sub_at}
+use Rattle.runoff_states.specs.RunoffStates.{sub_at}
 use Rattle.runoff_states.specs.RunoffTimes.{flow_to}
 
 -- where the walk stands after k subcatchments
@@ -47,7 +47,7 @@ walked_more {part} {old} {new} {k} w place flow inside here elsewhere range =
     let sum = number new place +ℤ flow in
     let same = get_or-set_same new place sum (pos 0) room in
     let at_place : number (set new place sum) place ≡ number old place +ℤ sum_below (part place) (k + 1) =
-        same ∙ omega (arith, ints, w.each place inside, sum_next (part place) k, here) in
+    same ∙ omega (arith, ints, w.each place inside, sum_next (part place) k, here) in
     record {
       count = length-set new place sum ∙ w.count;
       each = λ n within. elim (cases_eq n place) [

@@ -1,7 +1,7 @@
 -- The states of a hotstart, brought into the ranges of their subcatchments.
-use Rattle.std.proofs.Common.{◌≡◌, ℕ, zero, suc, ◌+◌, ◌<◌, ◌≤◌, List, [], ◌∷◌, ◌++◌, length, get_or, set, ℤ, pos, ◌∙◌}
+use Rattle.std.proofs.Common.{◌≡◌, ℕ, zero, suc, ◌+◌, ◌<◌, ◌≤◌, List, [], ◌∷◌, ◌++◌, length, set, ℤ, pos, ◌∙◌}
 use Rattle.std.proofs.Common.{refl, ap, subst, sym, arith, below_more, length-append}
-use Rattle.std.proofs.lemmas.List.{length-set, get_or-set_same, get_or-set_other}
+use Rattle.std.proofs.lemmas.List.{get_or-set_same, get_or-set_other}
 use Rattle.net_types.specs.declared.hydrology.Sub.{Sub}
 use Rattle.net_types.specs.declared.project.Project.{Project}
 use Rattle.runoff.specs.RunoffStep.{IsKeptState, IsSubStateUpTo, opening_of_sub, start_of_sub}
@@ -46,7 +46,7 @@ pub opened_more : {project : Project} {kept states : List SubState} {place : ℕ
 opened_more {project} {kept} {states} {place} w after inside s =
     let here : state_at (set states place after) place ≡ after = get_or-set_same states place after no_state inside in
     let other : (k : ℕ) → (k ≡ place → ⊥) → state_at (set states place after) k ≡ state_at states k =
-        λ k ne. get_or-set_other states place k after no_state ne in
+    λ k ne. get_or-set_other states place k after no_state ne in
     record {
       is = below_more (λ k. state_at (set states place after) k ≡ opening_state project kept k) place
           (λ k h. other k (λ e. absurd (omega (arith, e, h))) ∙ w.is k h) (here ∙ s.is);

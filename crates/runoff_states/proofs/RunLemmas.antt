@@ -11,7 +11,7 @@ use Rattle.runoff.specs.RunoffStep.{StepInRange, SubGrowsSlowly, sub_state_after
 use Rattle.runoff.specs.declared.states.SubState.{SubState}
 use Rattle.runoff.specs.declared.states.SubStep.{SubStep}
 use Rattle.runoff_states.specs.RunoffAccount.{IsClosed}
-use Rattle.runoff_states.specs.RunoffStates.{after_on, moment_of, runoff_state, state_at, step_at, step_on, sub_at}
+use Rattle.runoff_states.specs.RunoffStates.{after_on, moment_of, state_at, step_at, step_on, sub_at}
 use Rattle.runoff_states.specs.RunoffStates.{AreStates, AreStatesUpTo}
 use Rattle.runoff_states.proofs.AccountLemmas.{no_step}
 
@@ -74,9 +74,9 @@ stepped_more {project} {moment} {old} {states} {steps} {place} w before after st
     let new_state : state_at (set states place after) place ≡ after = get_or-set_same states place after no_state inside in
     let new_step : step_at (set steps place step) place ≡ step = get_or-set_same steps place step no_step room in
     let other_state : (k : ℕ) → (k ≡ place → ⊥) → state_at (set states place after) k ≡ state_at states k =
-        λ k ne. get_or-set_other states place k after no_state ne in
+    λ k ne. get_or-set_other states place k after no_state ne in
     let other_step : (k : ℕ) → (k ≡ place → ⊥) → step_at (set steps place step) k ≡ step_at steps k =
-        λ k ne. get_or-set_other steps place k step no_step ne in
+    λ k ne. get_or-set_other steps place k step no_step ne in
     record {
       count = length-set states place after ∙ w.count;
       done = below_more (λ k. state_at (set states place after) k ≡ after_on project moment (state_at old k) k) place

@@ -8,8 +8,15 @@ overflow_sub-result-3 c =
     let one = within_sub h.rain h.infil in
     let two = within_sub one h.runoff in
     let three = within_sub two h.stored in
-    simp (to_z-of_z, fits128 h.rain tt, fits128 h.infil tt, fits128 h.runoff tt, fits128 h.stored tt, fits128 one tt,
-    fits128 two tt) (fits128 three tt)
+    simp (
+      to_z-of_z,
+      fits128 h.rain tt,
+      fits128 h.infil tt,
+      fits128 h.runoff tt,
+      fits128 h.stored tt,
+      fits128 one tt,
+      fits128 two tt,
+    ) (fits128 three tt)
 
 pub returns-clause-error : goal.returns-clause-error
 returns-clause-error c =
@@ -17,8 +24,16 @@ returns-clause-error c =
     let one = within_sub h.rain h.infil in
     let two = within_sub one h.runoff in
     let three = within_sub two h.stored in
-    simp (to_z-of_z, fits128 h.rain tt, fits128 h.infil tt, fits128 h.runoff tt, fits128 h.stored tt, fits128 one tt,
-    fits128 two tt, fits128 three tt)
+    simp (
+      to_z-of_z,
+      fits128 h.rain tt,
+      fits128 h.infil tt,
+      fits128 h.runoff tt,
+      fits128 h.stored tt,
+      fits128 one tt,
+      fits128 two tt,
+      fits128 three tt,
+    )
 
 pub returns-clause-range : goal.returns-clause-range
 returns-clause-range c =
@@ -26,8 +41,16 @@ returns-clause-range c =
     let one = within_sub h.rain h.infil in
     let two = within_sub one h.runoff in
     let three = within_sub two h.stored in
-    simp (to_z-of_z, fits128 h.rain tt, fits128 h.infil tt, fits128 h.runoff tt, fits128 h.stored tt, fits128 one tt,
-    fits128 two tt, fits128 three tt)
+    simp (
+      to_z-of_z,
+      fits128 h.rain tt,
+      fits128 h.infil tt,
+      fits128 h.runoff tt,
+      fits128 h.stored tt,
+      fits128 one tt,
+      fits128 two tt,
+      fits128 three tt,
+    )
     (record {
       rain = within_up h.rain tt;
       infil = within_up h.infil tt;

@@ -1,8 +1,6 @@
-use Rattle.std.proofs.Common.{◌*◌, ◌^◌, ◌≤◌, pos, arith}
+use Rattle.std.proofs.Common.{◌≤◌, arith}
 use Rattle.std.proofs.lemmas.Int.{to_z-of_z}
-use Rattle.fixed_num.specs.Ranges.{IsWithin}
 use Rattle.fixed_num.proofs.Bounds.{within_add, fits128}
-use Rattle.runoff.specs.declared.states.SubStep.{SubStep}
 use Rattle.runoff_states.proofs.AccountLemmas.{balances, few_fit, no_step, summed_more}
 use Rattle.runoff_states.proofs.account.step_account.Goals as goal
 

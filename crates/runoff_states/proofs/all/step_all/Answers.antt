@@ -1,8 +1,7 @@
-use Rattle.std.proofs.Common.{◌≡◌, ◌<◌, ◌∙◌, length, sym, ap, subst, arith, get_or}
+use Rattle.std.proofs.Common.{◌≡◌, ◌<◌, ◌∙◌, length, sym, ap, subst, arith}
 use Rattle.std.proofs.lemmas.Int.{to_z-of_z}
 use Rattle.net_types.specs.declared.hydrology.Sub.{Sub}
 use Rattle.runoff.specs.RunoffStep.{IsSubState, StepInRange}
-use Rattle.runoff.specs.declared.states.SubState.{SubState}
 use Rattle.runoff.specs.declared.states.SubStep.{SubStep}
 use Rattle.runoff_states.specs.RunoffAccount.{IsClosed}
 use Rattle.runoff_states.specs.RunoffStates.{state_at, sub_at}
@@ -19,10 +18,10 @@ step_one-requires-clause-state c =
     let k = c.loop-place.place in
     let items = c.as_slice-subs.result.now in
     let inside : k < length c.args.project.now.subs =
-        omega (arith, c.loop-place-test.true, ap length c.as_slice-subs.ensures) in
+    omega (arith, c.loop-place-test.true, ap length c.as_slice-subs.ensures) in
     let same : c.index-subs-place.result ≡ sub_at c.args.project.now.subs k =
-        c.index-subs-place.is
-        ∙ sub_is c.args.project.now items k c.index-subs-place.result c.as_slice-subs.ensures c.loop-place-test.true in
+    c.index-subs-place.is
+    ∙ sub_is c.args.project.now items k c.index-subs-place.result c.as_slice-subs.ensures c.loop-place-test.true in
     let was = c.loop-place.invariant.left k (omega arith) in
     subst (λ (s : Sub). IsSubState s (state_at c.loop-place.states k)) (sym same)
     (subst (IsSubState (sub_at c.args.project.now.subs k)) (sym was) (c.requires.states.range k inside))
@@ -32,14 +31,24 @@ loop-place-preserved c =
     let k = c.loop-place.place in
     let items = c.as_slice-subs.result.now in
     let same : c.index-subs-place.result ≡ sub_at c.args.project.now.subs k =
-        c.index-subs-place.is
-        ∙ sub_is c.args.project.now items k c.index-subs-place.result c.as_slice-subs.ensures c.loop-place-test.true in
+    c.index-subs-place.is
+    ∙ sub_is c.args.project.now items k c.index-subs-place.result c.as_slice-subs.ensures c.loop-place-test.true in
     let inside : k < length c.loop-place.states =
-        omega (arith, c.loop-place-test.true, ap length c.as_slice-subs.ensures, c.loop-place.invariant.count,
-        c.requires.states.each_sub) in
+    omega (
+      arith,
+      c.loop-place-test.true,
+      ap length c.as_slice-subs.ensures,
+      c.loop-place.invariant.count,
+      c.requires.states.each_sub,
+    ) in
     let room : k < length c.loop-place.steps =
-        omega (arith, c.loop-place-test.true, ap length c.as_slice-subs.ensures, c.loop-place.auto.steps,
-        c.requires.steps) in
+    omega (
+      arith,
+      c.loop-place-test.true,
+      ap length c.as_slice-subs.ensures,
+      c.loop-place.auto.steps,
+      c.requires.steps,
+    ) in
     let before = state_at c.loop-place.states k in
     stepped_more c.loop-place.invariant before c.step_one.new.state c.step_one.result inside room
     (c.loop-place.invariant.left k (omega arith))
@@ -51,7 +60,7 @@ walked : (c : After-loop-place) → Stepped c.args.project.now c.args.moment c.a
     c.loop-place.steps (length c.args.project.now.subs)
 walked c =
     let end : c.loop-place.place ≡ length c.args.project.now.subs =
-        omega (arith, ap length c.as_slice-subs.ensures, c.loop-place-test.false, c.loop-place.auto.place-end) in
+    omega (arith, ap length c.as_slice-subs.ensures, c.loop-place-test.false, c.loop-place.auto.place-end) in
     subst (Stepped c.args.project.now c.args.moment c.args.states.now c.loop-place.states c.loop-place.steps) end
     (simp (to_z-of_z, c.ranges.moment) at c.loop-place.invariant)
 

@@ -1,4 +1,4 @@
-use Rattle.std.proofs.Common.{◌≡◌, ℕ, ◌<◌, ◌≤◌, ◌∙◌, length, sym, ap, subst, arith, get_or}
+use Rattle.std.proofs.Common.{◌≡◌, ◌<◌, ◌≤◌, length, ap, arith, get_or}
 use Rattle.std.proofs.lemmas.Int.{to_z-of_z}
 use Rattle.fixed_num.proofs.Bounds.{within_add, within_between, fits64, fits128}
 use Rattle.net_types.specs.declared.hydrology.Sub.{Sub}
@@ -15,10 +15,10 @@ loop-place-preserved c =
     let node = (get_or items k c.index-subs-place.result).outlet in
     let state = state_at c.args.states.now k in
     let inside : k < length project.subs =
-        omega (arith, c.loop-place-test.true, ap length c.as_slice-subs.ensures) in
+    omega (arith, c.loop-place-test.true, ap length c.as_slice-subs.ensures) in
     let same : node ≡ (sub_at project.subs k).outlet =
-        ap (λ (s : Sub). s.outlet)
-        (sub_is project items k c.index-subs-place.result c.as_slice-subs.ensures c.loop-place-test.true) in
+    ap (λ (s : Sub). s.outlet)
+    (sub_is project items k c.index-subs-place.result c.as_slice-subs.ensures c.loop-place-test.true) in
     let there = outlet_inside project k node c.requires.sound.names.subs inside same in
     let room : node < length c.args.laterals.now = omega (arith, there, c.requires.places) in
     let few : k ≤ 20_000 = omega (arith, inside, c.requires.sound.few.subs) in
@@ -37,5 +37,5 @@ loop-place-preserved c =
 pub returns-clause-sums : goal.returns-clause-sums
 returns-clause-sums c =
     let end : c.loop-place.place ≡ length c.args.project.now.subs =
-        omega (arith, ap length c.as_slice-subs.ensures, c.loop-place-test.false, c.loop-place.auto.place-end) in
+    omega (arith, ap length c.as_slice-subs.ensures, c.loop-place-test.false, c.loop-place.auto.place-end) in
     λ n h. walked_all c.loop-place.invariant (length c.args.project.now.subs) end n (omega (arith, h, c.requires.places))

@@ -12,11 +12,16 @@ loop-place-preserved c =
     let k = c.loop-place.place in
     let items = c.as_slice-subs.result.now in
     let same : c.index-subs-place.result ≡ sub_at c.args.project.now.subs k =
-        c.index-subs-place.is
-        ∙ sub_is c.args.project.now items k c.index-subs-place.result c.as_slice-subs.ensures c.loop-place-test.true in
+    c.index-subs-place.is
+    ∙ sub_is c.args.project.now items k c.index-subs-place.result c.as_slice-subs.ensures c.loop-place-test.true in
     let inside : k < length c.loop-place.states =
-        omega (arith, c.loop-place-test.true, ap length c.as_slice-subs.ensures, c.loop-place.auto.states,
-        c.requires.kept.each_sub) in
+    omega (
+      arith,
+      c.loop-place-test.true,
+      ap length c.as_slice-subs.ensures,
+      c.loop-place.auto.states,
+      c.requires.kept.each_sub,
+    ) in
     opened_more c.loop-place.invariant c.opening_sub.result inside
     (opened_at c.args.project.now c.index-subs-place.result (state_at c.loop-place.states k) c.opening_sub.result k same
     (c.loop-place.invariant.left k (omega arith)) c.opening_sub.ensures.value c.opening_sub.ensures.range)
@@ -26,10 +31,10 @@ opening_sub-requires-clause-state c =
     let k = c.loop-place.place in
     let items = c.as_slice-subs.result.now in
     let inside : k < length c.args.project.now.subs =
-        omega (arith, c.loop-place-test.true, ap length c.as_slice-subs.ensures) in
+    omega (arith, c.loop-place-test.true, ap length c.as_slice-subs.ensures) in
     let same : c.index-subs-place.result ≡ sub_at c.args.project.now.subs k =
-        c.index-subs-place.is
-        ∙ sub_is c.args.project.now items k c.index-subs-place.result c.as_slice-subs.ensures c.loop-place-test.true in
+    c.index-subs-place.is
+    ∙ sub_is c.args.project.now items k c.index-subs-place.result c.as_slice-subs.ensures c.loop-place-test.true in
     let was = c.loop-place.invariant.left k (omega arith) in
     subst (λ (s : Sub). IsKeptState (pos (10 ^ 16)) s (state_at c.loop-place.states k)) (sym same)
     (subst (IsKeptState (pos (10 ^ 16)) (sub_at c.args.project.now.subs k)) (sym was)
@@ -42,7 +47,7 @@ opened : (c : After-loop-place) → Opened c.args.project.now c.args.states.now 
     (length c.args.project.now.subs)
 opened c =
     let end : c.loop-place.place ≡ length c.args.project.now.subs =
-        omega (arith, ap length c.as_slice-subs.ensures, c.loop-place-test.false, c.loop-place.auto.place-end) in
+    omega (arith, ap length c.as_slice-subs.ensures, c.loop-place-test.false, c.loop-place.auto.place-end) in
     subst (Opened c.args.project.now c.args.states.now c.loop-place.states) end c.loop-place.invariant
 
 pub returns-clause-states : goal.returns-clause-states

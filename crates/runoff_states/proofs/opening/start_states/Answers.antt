@@ -10,8 +10,8 @@ loop-sub-preserved c =
     let k = c.loop-sub.sub-index in
     let items = c.as_slice-sub-items.result.now in
     let same : c.sub-item.result ≡ sub_at c.args.project.now.subs k =
-        c.sub-item.is
-        ∙ sub_is c.args.project.now items k c.sub-item.result c.as_slice-sub-items.ensures c.loop-sub-test.true in
+    c.sub-item.is
+    ∙ sub_is c.args.project.now items k c.sub-item.result c.as_slice-sub-items.ensures c.loop-sub-test.true in
     let pushed = c.in_ok-push.ensures.ok in
     subst (λ (l : List SubState). Started c.args.project.now l (k + 1)) (sym pushed)
     (started_more c.loop-sub.invariant c.sub-item.result c.start_sub.result same c.start_sub.ensures.value
