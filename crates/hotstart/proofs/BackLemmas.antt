@@ -1,23 +1,21 @@
 -- A written file is read back.
-use Rattle.std.proofs.Common.{◌≡◌, ◌∙◌, ℕ, zero, suc, ◌+◌, ◌*◌, ◌^◌, ◌<◌, ◌≤◌, Bool, true, false, cond, List, [], ◌∷◌, ◌++◌}
-use Rattle.std.proofs.Common.{length, map, codes, get_or, Option, None, ℤ, pos, neg_ℤ, ◌≤ℤ◌, All, refl, sym, ap, subst, arith}
-use Rattle.std.proofs.Common.{append_assoc, zip, flat_map, length-append}
+use Rattle.std.proofs.Common.{◌≡◌, ◌∙◌, ℕ, ◌+◌, ◌*◌, ◌^◌, ◌<◌, Bool, false, cond, List, [], ◌++◌}
+use Rattle.std.proofs.Common.{length, codes, get_or, Option, None, ℤ, pos, neg_ℤ, All, refl, sym, ap, subst, arith}
+use Rattle.std.proofs.Common.{zip, flat_map, length-append}
 use Rattle.std.proofs.lemmas.Int.{ints}
 use Rattle.std.proofs.lemmas.List.FromFn.{fill_by_all}
 use Rattle.std.proofs.lemmas.Slice.Zip.{get_or-zip, length-zip}
 use Rattle.fixed_num.specs.Lists.{list_of}
-use Rattle.fixed_num.specs.Ranges.{IsBetween, IsFlow, IsHead, IsPart, IsWithin}
+use Rattle.fixed_num.specs.Ranges.{IsBetween, IsFlow, IsHead, IsPart}
 use Rattle.net_types.specs.declared.options.InfilKind.{InfilKind}
 use Rattle.net_types.specs.declared.project.Project.{Project}
 use Rattle.hotstart.specs.Checks.{AreGood, IsGoodFile}
 use Rattle.hotstart.specs.HotBytes.{count_bytes, header, hot_bytes, kind_number, link_bytes, sub_bytes, value_bytes}
 use Rattle.hotstart.specs.HotRanges.{IsHotState, IsHotSub, IsKept, IsKeptSub}
-use Rattle.hotstart.specs.Layout.{count, counts, file_fault, head_fields, is_old, kind, layout_of, least_fields}
-use Rattle.hotstart.specs.Layout.{link_fields, magic, net_values, new_fields, new_values, sub_fields, times, rest_of}
-use Rattle.hotstart.specs.Layout.{value_at, widths}
+use Rattle.hotstart.specs.Layout.{counts, file_fault, head_fields, is_old, layout_of}
+use Rattle.hotstart.specs.Layout.{link_fields, magic, net_values, new_fields, sub_fields, times, rest_of}
 use Rattle.hotstart.specs.Reading.{answer_or, new_state, old_state, reading_of, shape_of, sub_at, sub_width}
 use Rattle.hotstart.specs.WrittenBack.{IsStateFor}
-use Rattle.hotstart.specs.declared.read.HotRead.{HotRead}
 use Rattle.hotstart.specs.declared.read.HotRead.TheVariants.{Good}
 use Rattle.hotstart.specs.declared.refusal.Refusal.{Refusal}
 use Rattle.hotstart.specs.declared.shape.Shape.{Shape}
@@ -26,10 +24,10 @@ use Rattle.hotstart.specs.declared.state.HotSub.{HotSub}
 use Rattle.hotstart.proofs.CheckLemmas.{file_good, good_then}
 use Rattle.hotstart.proofs.EqualLemmas.{Fits, between_all, between_fits, count_length, header_length, kind_small}
 use Rattle.hotstart.proofs.EqualLemmas.{value_length, within_all}
-use Rattle.hotstart.proofs.GoodLemmas.{count_good, kind_good, magic_good, row_good, rows_good, value_good}
+use Rattle.hotstart.proofs.GoodLemmas.{count_good, kind_good, magic_good, rows_good, value_good}
 use Rattle.hotstart.proofs.ReadLemmas.{new_state_is}
 use Rattle.hotstart.proofs.StandLemmas.{Stands, column_stands, flows_stand, link_length, settings_stand, stands_front}
-use Rattle.hotstart.proofs.StandLemmas.{stands_item, stands_rest, stands_whole, stands_within, value_stands, values_wide}
+use Rattle.hotstart.proofs.StandLemmas.{stands_item, stands_rest, stands_whole, value_stands, values_wide}
 use Rattle.hotstart.proofs.SubLemmas.{sub_good, sub_length, sub_read, values_length, wide_length}
 
 -- ---- heads and links
@@ -63,10 +61,10 @@ link_good : {file : List ℕ} (p : ℕ) (link : ℤ × ℤ) → GoodLink link �
     → AreGood file p link_fields (p + 16)
 link_good p link h there =
     let first = value_good {next = p + 8} (neg_ℤ (pos (10 ^ 12))) (pos (10 ^ 12)) link.0
-        (stands_front (value_bytes link.0) (value_bytes link.1) there) h.flow_fits (flow_between link.0 h.flow) refl in
+    (stands_front (value_bytes link.0) (value_bytes link.1) there) h.flow_fits (flow_between link.0 h.flow) refl in
     let second = value_good {next = p + 16} (pos 0) (pos (10 ^ 6)) link.1
-        (stands_rest (value_bytes link.0) (value_bytes link.1) there (omega (arith, value_length link.0)))
-        h.setting_fits h.setting (omega arith) in
+    (stands_rest (value_bytes link.0) (value_bytes link.1) there (omega (arith, value_length link.0)))
+    h.setting_fits h.setting (omega arith) in
     good_then first second
 
 pub links_good : {file : List ℕ} {place next : ℕ} (flows settings : List ℤ) → All IsFlow flows → All IsPart settings
@@ -96,8 +94,12 @@ pub links_length : (flows settings : List ℤ) → length settings ≡ length fl
     → length (flat_map link_bytes (zip flows settings)) ≡ 16 * length flows
 links_length flows settings same =
     let long : length (zip flows settings) ≡ length flows = omega (arith, same, length-zip flows settings) in
-    omega (arith, long, wide_length link_bytes 16 (zip flows settings)
-    (λ k d h. link_length (get_or (zip flows settings) k d)))
+    omega (
+      arith,
+      long,
+      wide_length link_bytes 16 (zip flows settings)
+          (λ k d h. link_length (get_or (zip flows settings) k d)),
+    )
 
 -- ---- subcatchments
 record GoodSub (method : InfilKind) (sub : HotSub) : Type 0 where
@@ -156,8 +158,8 @@ laid state same =
     let heads_length = values_length state.heads in
     let all_links = links_length state.flows state.settings same in
     let last = stands_rest {next = 24 + 8 * length state.heads + 16 * length state.flows}
-        ((header state ++ heads) ++ links) rest whole
-        (omega (arith, front_length, nets_length, head_length, heads_length, all_links)) in
+    ((header state ++ heads) ++ links) rest whole
+    (omega (arith, front_length, nets_length, head_length, heads_length, all_links)) in
     record {
       top = stands_front (header state) heads front;
       heads = stands_rest (header state) heads front (omega (arith, head_length));
@@ -176,11 +178,18 @@ whole_length state same hot =
     let heads = flat_map value_bytes state.heads in
     let links = flat_map link_bytes (zip state.flows state.settings) in
     let subs = flat_map sub_bytes state.subs in
-    omega (arith, length-append (header state) heads, length-append (header state ++ heads) links,
-    length-append ((header state ++ heads) ++ links) (value_bytes state.least ++ subs),
-    length-append (value_bytes state.least) subs, header_length state, values_length state.heads,
-    links_length state.flows state.settings same, value_length state.least,
-    wide_length sub_bytes (sub_width state.kind) state.subs (subs_wide state.kind state.subs hot))
+    omega (
+      arith,
+      length-append (header state) heads,
+      length-append (header state ++ heads) links,
+      length-append ((header state ++ heads) ++ links) (value_bytes state.least ++ subs),
+      length-append (value_bytes state.least) subs,
+      header_length state,
+      values_length state.heads,
+      links_length state.flows state.settings same,
+      value_length state.least,
+      wide_length sub_bytes (sub_width state.kind) state.subs (subs_wide state.kind state.subs hot),
+    )
 
 -- ---- the fields of a file of version 2
 abbrev shape_in : HotState → Shape
@@ -221,11 +230,11 @@ top_good : {file : List ℕ} (state : HotState) → IsHotState state → TopLaid
 top_good state h t =
     let word = magic_good 50 (omega arith) refl t.magic_word in
     let nodes = count_good {next = 12} 0 (length state.heads) (length state.heads) t.nodes
-        (omega (arith, h.few_nodes)) refl refl in
+    (omega (arith, h.few_nodes)) refl refl in
     let links = count_good {next = 16} 1 (length state.flows) (length state.flows) t.links
-        (omega (arith, h.few_links)) refl refl in
+    (omega (arith, h.few_links)) refl refl in
     let subs = count_good {next = 20} 2 (length state.subs) (length state.subs) t.subs
-        (omega (arith, h.few_subs)) refl refl in
+    (omega (arith, h.few_subs)) refl refl in
     good_then word (good_then nodes (good_then links subs))
 
 new_good : {file : List ℕ} (state : HotState) → IsKept state → Laid file state → TopLaid file state
@@ -234,14 +243,14 @@ new_good : {file : List ℕ} (state : HotState) → IsKept state → Laid file s
 new_good state h l t =
     let w = h.written in
     let kinds = kind_good {next = 24} (kind_number state.kind) (kind_number state.kind) t.kinds
-        (kind_small state.kind) refl refl in
+    (kind_small state.kind) refl refl in
     let heads = heads_good {next = 24 + 8 * length state.heads} state.heads w.heads l.heads refl in
     let links = links_good {next = 24 + 8 * length state.heads + 16 * length state.flows} state.flows state.settings
-        w.flows w.settings w.as_many l.links refl in
+    w.flows w.settings w.as_many l.links refl in
     let least = value_good {next = 24 + 8 * length state.heads + 16 * length state.flows + 8} (pos 0) (pos 3_600_000)
-        state.least l.least (between_fits 3_600_000 state.least (omega arith) w.least) w.least refl in
+    state.least l.least (between_fits 3_600_000 state.least (omega arith) w.least) w.least refl in
     let subs = subs_good {next = 24 + 8 * length state.heads + 16 * length state.flows + 8
-        + sub_width state.kind * length state.subs} state.kind state.subs w.subs h.subs l.subs refl in
+    + sub_width state.kind * length state.subs} state.kind state.subs w.subs h.subs l.subs refl in
     good_then kinds (good_then (good_then heads links) (good_then least subs))
 
 -- a file that begins so is of version 2
@@ -259,7 +268,7 @@ new_file_good state h =
     let end = 24 + 8 * length state.heads + 16 * length state.flows + 8 + sub_width state.kind * length state.subs in
     let good = good_then (top_good state h.written t) (new_good state h l t) in
     let rest : rest_of (shape_in state) file ≡ new_fields (shape_in state) =
-        ap (λ (b : Bool). cond b (net_values (shape_in state)) (new_fields (shape_in state))) (new_version state) in
+    ap (λ (b : Bool). cond b (net_values (shape_in state)) (new_fields (shape_in state))) (new_version state) in
     let all = subst (λ r. AreGood file 0 (magic ++ counts (shape_in state) ++ r) end) (sym rest) good in
     file_good file (magic ++ counts (shape_in state) ++ rest_of (shape_in state) file) end all
     (omega (arith, whole_length state h.written.as_many h.written.subs))
@@ -294,7 +303,7 @@ kept_back project state h f =
     let file = hot_bytes state in
     let e = shape_same project state f in
     let none : file_fault file (layout_of (shape_of project) file) ≡ None =
-        ap (λ (s : Shape). file_fault file (layout_of s file)) (sym e) ∙ (new_file_good state h).no_fault in
+    ap (λ (s : Shape). file_fault file (layout_of s file)) (sym e) ∙ (new_file_good state h).no_fault in
     let back = new_state_back project state h e in
     ap (λ (o : Option Refusal). answer_or o (cond (is_old file) (old_state project file) (new_state project file))) none
     ∙ ap (λ (b : Bool). Good (cond b (old_state project file) (new_state project file))) (new_version state)

@@ -1,7 +1,7 @@
 -- Bytes that stand where they should have no fault.
 use Rattle.std.proofs.Common.{◌≡◌, ◌∙◌, ℕ, zero, suc, ◌+◌, ◌*◌, ◌^◌, ◌<◌, ◌≤◌, ◌==◌, ◌&&◌, ◌||◌, ◌%◌, nat_lt, Bool, true, false, cond}
-use Rattle.std.proofs.Common.{List, [], ◌∷◌, ◌++◌, length, map, codes, get_or, Option, Some, None, ℤ, pos, ◌≤ℤ◌, int_le}
-use Rattle.std.proofs.Common.{All, refl, sym, ap, subst, arith, flat_map, length-append}
+use Rattle.std.proofs.Common.{List, [], ◌∷◌, ◌++◌, length, map, codes, Option, Some, None, ℤ, ◌≤ℤ◌, int_le}
+use Rattle.std.proofs.Common.{All, refl, sym, ap, subst, arith, flat_map}
 use Rattle.std.proofs.Math.Nat.{mod-eq_of_lt}
 use Rattle.std.specs.Int.{w64, cast_signed, cast_unsigned}
 use Rattle.std.specs.Option.{option_or}
@@ -30,9 +30,9 @@ field_good {file} {place} {next} field n s h ok e =
     let whole : nat_lt (length file) (place + width field) ≡ false = grind (arith, nat_tests) in
     let reads = number_stands (width field) n s h in
     let none : field_fault file place field ≡ None =
-        ap (λ (b : Bool). cond b (Some (Ends (length file))) (number_fault field place
-        (number_at file place (width field)))) whole
-        ∙ ap (number_fault field place) reads ∙ ok in
+    ap (λ (b : Bool). cond b (Some (Ends (length file))) (number_fault field place
+    (number_at file place (width field)))) whole
+    ∙ ap (number_fault field place) reads ∙ ok in
     record {
       no_fault = ap (λ (o : Option Refusal). option_or o None) none;
       next_is = omega (arith, e);
@@ -57,7 +57,7 @@ letters_good {file} {place} {next} [] all s e =
 letters_good {file} {place} {next} (b ∷ bs) all s e =
     let first = letter_good {next = place + 1} b (all 0 b (omega arith)) (stands_front (b ∷ []) bs s) refl in
     let rest = letters_good {place = place + 1} {next = next} bs (later_all (λ (x : ℕ). x < 256) b bs all)
-        (stands_rest (b ∷ []) bs s refl) (omega (arith, e)) in
+    (stands_rest (b ∷ []) bs s refl) (omega (arith, e)) in
     good_then first rest
 
 version_good : {file : List ℕ} {place next : ℕ} (b : ℕ) → b < 256 → (b == 49 || b == 50) ≡ true
@@ -110,8 +110,8 @@ value_good {file} {place} least most v s f h e =
     let back : cast_signed w64 (cast_unsigned w64 v) ≡ v = to_z-of_z w64 v f.fits in
     let test = in_range least v most h.from h.to in
     let tested : (int_le least (cast_signed w64 (cast_unsigned w64 v))
-        && int_le (cast_signed w64 (cast_unsigned w64 v)) most) ≡ true =
-        ap (λ (x : ℤ). int_le least x && int_le x most) back ∙ test in
+    && int_le (cast_signed w64 (cast_unsigned w64 v)) most) ≡ true =
+    ap (λ (x : ℤ). int_le least x && int_le x most) back ∙ test in
     field_good (value least most) (cast_unsigned w64 v) s (omega (arith, ints, f.fits))
     (ap (λ (t : Bool). cond t None (Some (BadValue place))) tested) e
 
@@ -136,9 +136,9 @@ row_good [] (r ∷ rs) h f s e = absurd h
 row_good (v ∷ vs) [] h f s e = absurd h
 row_good {file} {place} {next} (v ∷ vs) (r ∷ rs) h f s e =
     let first = value_good {next = place + 8} r.0 r.1 v (stands_front (value_bytes v) (flat_map value_bytes vs) s)
-        (f 0 v (omega arith)) h.0 refl in
+    (f 0 v (omega arith)) h.0 refl in
     let rest = row_good {place = place + 8} {next = next} vs rs h.1 (later_all Fits v vs f)
-        (stands_rest (value_bytes v) (flat_map value_bytes vs) s (omega (arith, value_length v))) (omega (arith, e)) in
+    (stands_rest (value_bytes v) (flat_map value_bytes vs) s (omega (arith, value_length v))) (omega (arith, e)) in
     good_then first rest
 
 -- so many rows of one width
@@ -156,6 +156,6 @@ rows_good {A} P f row wide {file} {place} {next} (x ∷ xs) one good long s e =
     let width_is : length (f x) ≡ wide = long 0 x (omega arith) in
     let first = one place x (good 0 x (omega arith)) (stands_front (f x) (flat_map f xs) s) in
     let rest = rows_good P f row wide {place = place + wide} {next = next} xs one (later_all P x xs good)
-        (later_all (λ (y : A). length (f y) ≡ wide) x xs long)
-        (stands_rest (f x) (flat_map f xs) s (omega (arith, width_is))) (omega (arith, e)) in
+    (later_all (λ (y : A). length (f y) ≡ wide) x xs long)
+    (stands_rest (f x) (flat_map f xs) s (omega (arith, width_is))) (omega (arith, e)) in
     good_then first rest

@@ -1,9 +1,8 @@
 -- A state whose numbers are above what a file keeps is written as one whose numbers are not.
-use Rattle.std.proofs.Common.{◌≡◌, ◌∙◌, ℕ, zero, suc, ◌+◌, ◌*◌, ◌^◌, ◌<◌, ◌≤◌, List, [], ◌∷◌, ◌++◌, length, map, get_or}
+use Rattle.std.proofs.Common.{◌≡◌, ◌∙◌, ℕ, zero, suc, ◌^◌, List, [], ◌∷◌, ◌++◌, length, map}
 use Rattle.std.proofs.Common.{ℤ, pos, ◌≤ℤ◌, All, refl, sym, ap, subst, arith, codes, zip, flat_map}
 use Rattle.std.proofs.lemmas.Int.{ints, clamps}
-use Rattle.std.proofs.lemmas.List.{length-map, get_or-map}
-use Rattle.fixed_num.specs.Lists.{number}
+use Rattle.std.proofs.lemmas.List.{length-map}
 use Rattle.infiltration.specs.declared.states.InfilState.{InfilState}
 use Rattle.infiltration.specs.declared.states.InfilState.TheVariants.{Horton, Number}
 use Rattle.net_types.specs.declared.options.InfilKind.{InfilKind}
@@ -13,7 +12,6 @@ use Rattle.hotstart.specs.HotBytes.{count_bytes, hot_bytes, kept, kind_number, l
 use Rattle.hotstart.specs.HotRanges.{IsHotState, IsHotSub, IsKept, IsKeptSub, IsStateOf, infil_numbers}
 use Rattle.hotstart.specs.Reading.{reading_of}
 use Rattle.hotstart.specs.WrittenBack.{HasThreeDepths, IsStateFor, kept_infil, kept_state, kept_sub}
-use Rattle.hotstart.specs.declared.read.HotRead.{HotRead}
 use Rattle.hotstart.specs.declared.read.HotRead.TheVariants.{Good}
 use Rattle.hotstart.specs.declared.state.HotState.{HotState}
 use Rattle.hotstart.specs.declared.state.HotSub.{HotSub}
@@ -54,7 +52,7 @@ three_row : (d0 d1 d2 flow : ℤ) (i : InfilState)
     → sub_row (kept_sub (three_hot d0 d1 d2 flow i)) ≡ sub_row (three_hot d0 d1 d2 flow i)
 three_row d0 d1 d2 flow i =
     let rest : map kept (infil_numbers (kept_infil i)) ≡ map kept (infil_numbers i) =
-        ap (map kept) (kept_numbers i) ∙ all_kept_twice (infil_numbers i) in
+    ap (map kept) (kept_numbers i) ∙ all_kept_twice (infil_numbers i) in
     same (kept_twice d0) (kept_twice d1) (kept_twice d2) rest
   where
     same : {a b c d e f g : ℤ} {xs ys : List ℤ} → a ≡ b → c ≡ d → e ≡ f → xs ≡ ys
@@ -67,7 +65,7 @@ sub_bytes_same sub h = by_parts (three_parts sub.depths h)
     by_parts : IsThree sub.depths → sub_bytes (kept_sub sub) ≡ sub_bytes sub
     by_parts p =
         let is : three_hot p.one p.two p.three sub.flow sub.infil ≡ sub =
-            sym (ap (λ (l : List ℤ). hot_sub l sub.flow sub.infil) p.is) in
+        sym (ap (λ (l : List ℤ). hot_sub l sub.flow sub.infil) p.is) in
         subst (λ (s : HotSub). sub_bytes (kept_sub s) ≡ sub_bytes s) is
         (ap (flat_map value_bytes) (three_row p.one p.two p.three sub.flow sub.infil))
 

@@ -1,19 +1,17 @@
 -- A file of version 1 is read by its migration.
-use Rattle.std.proofs.Common.{◌≡◌, ◌∙◌, ℕ, zero, suc, ◌+◌, ◌*◌, ◌^◌, ◌<◌, ◌≤◌, Bool, true, cond, List, [], ◌∷◌, ◌++◌}
-use Rattle.std.proofs.Common.{length, map, codes, Option, None, ℤ, pos, refl, sym, ap, subst, arith, zip, flat_map}
+use Rattle.std.proofs.Common.{◌≡◌, ◌∙◌, ℕ, ◌+◌, ◌*◌, ◌^◌, Bool, true, cond, List, [], ◌++◌}
+use Rattle.std.proofs.Common.{length, codes, Option, None, ℤ, refl, sym, ap, subst, arith, zip, flat_map}
 use Rattle.std.proofs.Common.{length-append}
-use Rattle.fixed_num.specs.Lists.{list_of}
 use Rattle.net_types.specs.declared.project.Project.{Project}
 use Rattle.net_types.specs.Sound.{IsSound}
 use Rattle.hotstart.specs.Checks.{AreGood, IsGoodFile}
 use Rattle.hotstart.specs.HotBytes.{count_bytes, link_bytes, value_bytes}
 use Rattle.hotstart.specs.Layout.{counts, file_fault, is_old, layout_of, magic, net_values, new_fields, rest_of}
-use Rattle.hotstart.specs.Reading.{answer_or, column, kind_of, new_state, old_state, reading_of, shape_of, start_sub}
+use Rattle.hotstart.specs.Reading.{answer_or, column, kind_of, new_state, old_state, reading_of, shape_of}
 use Rattle.hotstart.specs.WrittenBack.{AreNetsFor, migrated, old_bytes}
 use Rattle.hotstart.specs.declared.read.HotRead.TheVariants.{Good}
 use Rattle.hotstart.specs.declared.refusal.Refusal.{Refusal}
 use Rattle.hotstart.specs.declared.shape.Shape.{Shape}
-use Rattle.hotstart.specs.declared.state.HotState.{HotState}
 use Rattle.hotstart.proofs.BackLemmas.{heads_good, links_good, links_length}
 use Rattle.hotstart.proofs.CheckLemmas.{file_good, good_then}
 use Rattle.hotstart.proofs.EqualLemmas.{between_all, count_length, within_all}
@@ -47,7 +45,7 @@ laid subs heads flows settings same =
     let lb = count_length (length flows) in
     let lc = count_length subs in
     let three_length : length three ≡ 12 =
-        omega (arith, length-append a (b ++ (c ++ [])), length-append b (c ++ []), length-append c [], la, lb, lc) in
+    omega (arith, length-append a (b ++ (c ++ [])), length-append b (c ++ []), length-append c [], la, lb, lc) in
     let s = stands_whole file in
     let rest = stands_rest {next = 8} (codes "SWMMFXH1") (three ++ (hs ++ ls)) s refl in
     let one = stands_front three (hs ++ ls) rest in
@@ -61,8 +59,15 @@ laid subs heads flows settings same =
       sub_count = stands_front c [] last;
       heads_there = stands_front hs ls body;
       links_there = stands_rest hs ls body (omega (arith, values_length heads));
-      whole = omega (arith, length-append (codes "SWMMFXH1") (three ++ (hs ++ ls)), length-append three (hs ++ ls),
-          length-append hs ls, three_length, values_length heads, links_length flows settings same);
+      whole = omega (
+        arith,
+        length-append (codes "SWMMFXH1") (three ++ (hs ++ ls)),
+        length-append three (hs ++ ls),
+        length-append hs ls,
+        three_length,
+        values_length heads,
+        links_length flows settings same,
+      );
     }
 
 old_version : (subs : ℕ) (heads flows settings : List ℤ) → is_old (old_bytes subs heads flows settings) ≡ true
@@ -91,16 +96,16 @@ old_file_good project heads flows settings sound h =
     let end = 20 + 8 * length heads + 16 * length flows in
     let word = magic_good 49 (omega arith) refl l.magic_word in
     let nodes = count_good {next = 12} 0 (length heads) (length heads) l.nodes
-        (omega (arith, h.nodes, sound.few.nodes)) refl refl in
+    (omega (arith, h.nodes, sound.few.nodes)) refl refl in
     let links = count_good {next = 16} 1 (length flows) (length flows) l.links
-        (omega (arith, h.links, sound.few.links)) refl refl in
+    (omega (arith, h.links, sound.few.links)) refl refl in
     let sub_count = count_good {next = 20} 2 subs subs l.sub_count (omega (arith, sound.few.subs)) refl refl in
     let top = good_then word (good_then nodes (good_then links sub_count)) in
     let all_heads = heads_good {next = 20 + 8 * length heads} heads h.heads_in l.heads_there refl in
     let all_links = links_good {next = end} flows settings h.flows_in h.settings_in h.as_many l.links_there refl in
     let good = good_then top (good_then all_heads all_links) in
     let rest : rest_of shape file ≡ net_values shape =
-        ap (λ (b : Bool). cond b (net_values shape) (new_fields shape)) (old_version subs heads flows settings) in
+    ap (λ (b : Bool). cond b (net_values shape) (new_fields shape)) (old_version subs heads flows settings) in
     let all = subst (λ r. AreGood file 0 (magic ++ counts shape ++ r) end) (sym rest) good in
     file_good file (magic ++ counts shape ++ rest_of shape file) end all (omega (arith, l.whole))
 
@@ -112,12 +117,12 @@ state_back project heads flows settings h =
     let nodes : length heads ≡ length project.nodes = h.nodes in
     let place : 20 + 8 * length heads ≡ 20 + 8 * length project.nodes = omega (arith, h.nodes) in
     let hs = column_stands heads (length project.nodes) l.heads_there h.nodes
-        (within_all (2 * 10 ^ 10) heads (omega arith) h.heads_in) in
+    (within_all (2 * 10 ^ 10) heads (omega arith) h.heads_in) in
     let links_there = subst (λ (p : ℕ). Stands file p (flat_map link_bytes (zip flows settings))) place l.links_there in
     let fs = flows_stand flows settings (length project.links) links_there h.as_many h.links
-        (within_all (10 ^ 12) flows (omega arith) h.flows_in) in
+    (within_all (10 ^ 12) flows (omega arith) h.flows_in) in
     let ss = settings_stand {next = 28 + 8 * length project.nodes} flows settings (length project.links) links_there
-        h.as_many h.links (omega arith) (between_all (10 ^ 6) settings (omega arith) h.settings_in) in
+    h.as_many h.links (omega arith) (between_all (10 ^ 6) settings (omega arith) h.settings_in) in
     ap (λ (x : List ℤ). migrated project x (column file (20 + 8 * length project.nodes) 16 (length project.links))
     (column file (28 + 8 * length project.nodes) 16 (length project.links))) (sym hs)
     ∙ ap (λ (x : List ℤ). migrated project heads x
@@ -147,8 +152,8 @@ old_back project heads flows settings sound h =
     let file = old_bytes (length project.subs) heads flows settings in
     let e = shape_same project heads flows h.nodes h.links in
     let none : file_fault file (layout_of (shape_of project) file) ≡ None =
-        ap (λ (s : Shape). file_fault file (layout_of s file)) (sym e)
-        ∙ (old_file_good project heads flows settings sound h).no_fault in
+    ap (λ (s : Shape). file_fault file (layout_of s file)) (sym e)
+    ∙ (old_file_good project heads flows settings sound h).no_fault in
     ap (λ (o : Option Refusal). answer_or o (cond (is_old file) (old_state project file) (new_state project file))) none
     ∙ ap (λ (b : Bool). Good (cond b (old_state project file) (new_state project file)))
     (old_version (length project.subs) heads flows settings)

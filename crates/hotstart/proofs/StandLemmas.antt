@@ -11,7 +11,7 @@ use Rattle.byteorder.specs.Numbers.{little_number-reads_back}
 use Rattle.hotstart.specs.HotBytes.{count_bytes, value_bytes, link_bytes}
 use Rattle.hotstart.specs.Layout.{number_at, value_at}
 use Rattle.hotstart.specs.Reading.{column}
-use Rattle.hotstart.proofs.EqualLemmas.{Fits, count_length, value_length, later_all}
+use Rattle.hotstart.proofs.EqualLemmas.{Fits, value_length, later_all}
 
 -- these bytes stand in a file from a place
 pub record Stands (file : List ℕ) (place : ℕ) (bytes : List ℕ) : Type 0 where
@@ -73,9 +73,9 @@ pub number_stands : {file : List ℕ} {place : ℕ} (bytes n : ℕ) → Stands f
     → n < 256 ^ bytes → number_at file place bytes ≡ n
 number_stands {file} {place} bytes n s h =
     let split : drop (length s.before) (s.before ++ (little_bytes bytes n ++ s.after)) ≡ little_bytes bytes n ++ s.after =
-        drop-append_seam s.before (little_bytes bytes n ++ s.after) in
+    drop-append_seam s.before (little_bytes bytes n ++ s.after) in
     let there : drop place file ≡ little_bytes bytes n ++ s.after =
-        ap (λ (p : ℕ). drop p file) (sym s.count) ∙ ap (drop (length s.before)) s.is ∙ split in
+    ap (λ (p : ℕ). drop p file) (sym s.count) ∙ ap (drop (length s.before)) s.is ∙ split in
     ap (little_number bytes) there ∙ little_number-reads_back bytes n s.after h
 
 pub count_stands : {file : List ℕ} {place : ℕ} (n : ℕ) → Stands file place (count_bytes n) → n < 2 ^ 32

@@ -1,7 +1,6 @@
 -- A subcatchment that stands in a file.
-use Rattle.std.proofs.Common.{◌≡◌, ◌∙◌, ℕ, zero, suc, ◌+◌, ◌*◌, ◌^◌, ◌<◌, ◌≤◌, List, [], ◌∷◌, ◌++◌, length, map, get_or}
+use Rattle.std.proofs.Common.{◌≡◌, ◌∙◌, ℕ, suc, ◌+◌, ◌*◌, ◌^◌, ◌<◌, List, [], ◌∷◌, length, map, get_or}
 use Rattle.std.proofs.Common.{ℤ, pos, ◌≤ℤ◌, All, refl, sym, ap, subst, arith, flat_map, length-append}
-use Rattle.std.proofs.lemmas.Int.{ints}
 use Rattle.fixed_num.specs.Ranges.{IsBetween}
 use Rattle.infiltration.specs.declared.states.InfilState.{InfilState}
 use Rattle.infiltration.specs.declared.states.InfilState.TheVariants.{Horton, Number}
@@ -14,8 +13,7 @@ use Rattle.hotstart.specs.Layout.{sub_fields, value_at}
 use Rattle.hotstart.specs.Reading.{infil_at, sub_at, sub_width}
 use Rattle.hotstart.specs.declared.state.HotSub.{HotSub}
 use Rattle.hotstart.proofs.EqualLemmas.{Fits, IsThree, hot_sub, later_all, row_fits, row_is, three_hot, three_parts}
-use Rattle.hotstart.proofs.EqualLemmas.{value_length}
-use Rattle.hotstart.proofs.GoodLemmas.{AreIn, row_fields, row_good}
+use Rattle.hotstart.proofs.GoodLemmas.{row_good}
 use Rattle.hotstart.proofs.StandLemmas.{Stands, stands_item, value_stands, values_wide}
 
 -- the bytes of so many pieces of one width
@@ -24,8 +22,12 @@ pub wide_length : {A : Type 0} (f : A → List ℕ) (wide : ℕ) (xs : List A) �
 wide_length f wide [] all = omega arith
 wide_length {A} f wide (x ∷ xs) all =
     let first : length (f x) ≡ wide = all 0 x (omega arith) in
-    omega (arith, first, length-append (f x) (flat_map f xs),
-    wide_length f wide xs (later_all (λ (y : A). length (f y) ≡ wide) x xs all))
+    omega (
+      arith,
+      first,
+      length-append (f x) (flat_map f xs),
+      wide_length f wide xs (later_all (λ (y : A). length (f y) ≡ wide) x xs all),
+    )
 
 pub values_length : (vs : List ℤ) → length (flat_map value_bytes vs) ≡ 8 * length vs
 values_length vs = wide_length value_bytes 8 vs (values_wide vs)
@@ -95,12 +97,12 @@ parts_of method file place sub hot held s = by_parts (three_parts sub.depths hel
     by_parts : IsThree sub.depths → Parts method file place sub
     by_parts p =
         let is : sub ≡ three_hot p.one p.two p.three sub.flow sub.infil =
-            ap (λ (l : List ℤ). hot_sub l sub.flow sub.infil) p.is in
+        ap (λ (l : List ℤ). hot_sub l sub.flow sub.infil) p.is in
         let hot3 = subst (IsHotSub method) is hot in
         let held3 = subst IsKeptSub is held in
         let bytes : sub_bytes sub
-            ≡ flat_map value_bytes (p.one ∷ p.two ∷ p.three ∷ sub.flow ∷ infil_numbers sub.infil) =
-            ap sub_bytes is ∙ ap (flat_map value_bytes) (row_is p.one p.two p.three sub.flow sub.infil held3.most) in
+        ≡ flat_map value_bytes (p.one ∷ p.two ∷ p.three ∷ sub.flow ∷ infil_numbers sub.infil) =
+        ap sub_bytes is ∙ ap (flat_map value_bytes) (row_is p.one p.two p.three sub.flow sub.infil held3.most) in
         record {
           d0 = p.one;
           d1 = p.two;
@@ -141,9 +143,25 @@ fields_good CurveNumber d0 d1 d2 flow (Horton s) k st fits b fl = absurd k
 fields_good {file} {place} CurveNumber d0 d1 d2 flow (Number s) k st fits b fl =
     row_good {file = file} {place = place}
     (d0 ∷ d1 ∷ d2 ∷ flow ∷ s.room ∷ s.event_room ∷ s.rain ∷ s.taken ∷ s.dry ∷ [])
-    (deep ∷ deep ∷ deep ∷ (pos 0, pos (10 ^ 12)) ∷ deep ∷ deep ∷ deep ∷ deep ∷ deep ∷ [])
-    (b 0 (omega arith), (b 1 (omega arith), (b 2 (omega arith), (fl, (b 3 (omega arith), (b 4 (omega arith),
-    (b 5 (omega arith), (b 6 (omega arith), (b 7 (omega arith), tt))))))))) fits st (omega arith)
+    (deep ∷ deep ∷ deep ∷ (pos 0, pos (10 ^ 12)) ∷ deep ∷ deep ∷ deep ∷ deep ∷ deep ∷ []) (
+      b 0 (omega arith),
+      (
+        b 1 (omega arith),
+        (
+          b 2 (omega arith),
+          (
+            fl,
+            (
+              b 3 (omega arith),
+              (
+                b 4 (omega arith),
+                (b 5 (omega arith), (b 6 (omega arith), (b 7 (omega arith), tt))),
+              ),
+            ),
+          ),
+        ),
+      ),
+    ) fits st (omega arith)
 
 pub sub_good : (method : InfilKind) (file : List ℕ) (place : ℕ) (sub : HotSub) → IsHotSub method sub → IsKeptSub sub
     → Stands file place (sub_bytes sub) → AreGood file place (sub_fields method) (place + sub_width method)
