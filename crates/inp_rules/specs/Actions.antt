@@ -1,6 +1,7 @@
 -- What an action of a control rule is read as (User's Manual, section [CONTROLS]; this project's profile): a clause
 -- word, the kind of link, its name, what is set, `=` and a value.
-use Rattle.std.specs.Prelude.{ℕ, nat_lt, if◌then◌else◌, List, length, Option, Some, None, Result, Ok, Err, ℤ, codes}
+use Rattle.std.specs.Prelude.{ℕ, nat_lt, if◌then◌else◌, List, length, Option, Some, None, ℤ, codes}
+use Rattle.std.specs.Prelude.{Result, Ok, Err}
 use Rattle.inp_forms.specs.Context.{Context}
 use Rattle.inp_forms.specs.Values.{fault_of}
 use Rattle.inp_forms.specs.declared.item.Objects.{Objects}
@@ -20,7 +21,8 @@ use Rattle.inp_rules.specs.declared.words.Part.{Part}
 unfoldable pub setting_action : Context → List (List ℕ) → (link : ℕ) → Part → Result Action Fault
 setting_action known tokens link part =
     if same_word (token_at tokens 4) (codes "=")
-    then and_then (set_value known part (token_at tokens 5) 5) (λ setting. Ok (record { link = link; setting6 = setting }))
+    then and_then (set_value known part (token_at tokens 5) 5) (λ setting.
+    Ok (record { link = link; setting6 = setting }))
     else Err (fault_of fault_kind.InvalidKeyword 4)
 
 -- what is set is in this profile, or 401

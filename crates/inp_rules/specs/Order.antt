@@ -1,5 +1,5 @@
--- The order of the clauses of a rule (User's Manual, section [CONTROLS]): RULE, IF, any AND or OR, THEN, any AND, perhaps
--- ELSE and any AND, perhaps PRIORITY.
+-- The order of the clauses of a rule (User's Manual, section [CONTROLS]): RULE, IF, any AND or OR, THEN, any AND,
+-- perhaps ELSE and any AND, perhaps PRIORITY.
 use Rattle.std.specs.Prelude.{Option, None, Some}
 use Rattle.inp_rules.specs.declared.clauses.Clause.{Clause}
 use Rattle.inp_rules.specs.declared.clauses.Clause.TheVariants as clause

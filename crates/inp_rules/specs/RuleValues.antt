@@ -1,5 +1,7 @@
--- The values of tests and actions by their texts (User's Manual, section [CONTROLS]; ranges are this project's profile).
-use Rattle.std.specs.Prelude.{ℕ, ◌^◌, if◌then◌else◌, List, Option, Some, None, Result, Ok, Err, ℤ, pos, int_le, codes}
+-- The values of tests and actions by their texts (User's Manual, section [CONTROLS]; ranges are this project's
+-- profile).
+use Rattle.std.specs.Prelude.{ℕ, ◌^◌, if◌then◌else◌, List, Option, Some, None, ℤ, pos, int_le, codes}
+use Rattle.std.specs.Prelude.{Result, Ok, Err}
 use Rattle.inp_forms.specs.Context.{Context, object_number}
 use Rattle.inp_forms.specs.Values.{fault_of, value_of}
 use Rattle.inp_forms.specs.declared.item.Objects.{Objects}

@@ -1,6 +1,7 @@
 -- What a test of a control rule is read as (User's Manual, section [CONTROLS]; this project's profile): a clause word,
 -- what is looked at, its name unless that is the clock, what of it, a relation and a value.
-use Rattle.std.specs.Prelude.{ℕ, ◌+◌, nat_lt, if◌then◌else◌, List, length, Option, Some, None, Result, Ok, Err, codes}
+use Rattle.std.specs.Prelude.{ℕ, ◌+◌, nat_lt, if◌then◌else◌, List, length, Option, Some, None, codes}
+use Rattle.std.specs.Prelude.{Result, Ok, Err}
 use Rattle.inp_forms.specs.Context.{Context}
 use Rattle.inp_forms.specs.Values.{fault_of}
 use Rattle.inp_forms.specs.declared.item.Objects.TheVariants as objects
