@@ -59,7 +59,12 @@ fn amount_in(value: Value) -> i64
 }
 
 /// A number of an item of a form, or the item's fault.
-pub(crate) fn number<'a>(known: &Known<'a>, what: What, text: &'a [u8], place: usize) -> Result<i64, Fault>
+pub(crate) fn number<'a>(
+    known: &Known<'a>,
+    what: What,
+    text: &'a [u8],
+    place: usize,
+) -> Result<i64, Fault>
     ensures { result ≡ number_at (context_of known.now) what text.now place }
 {
     match read_value(known, Naming::First, what, text, place) {
