@@ -147,7 +147,8 @@ fn convective(inertia: i64, velocity: i64, rise: i64, dt: i64, length: i64) -> i
     quo(weight as i128 * push, 250_000_000_000_000 * length as i128)
 }
 
-// The flow that the pressure adds in a step, in cm³/s.
+// The flow that the pressure adds in a step, in cm³/s. Both sides of the quotient are divided by 160, so that most
+// numerators fit 64 bits.
 #[tactic(auto, using(fixed_num::proofs::Bounds::casts), unfolding(crate::specs::Momentum::pressure_of))]
 fn pressure(area: i64, fall: i64, dt: i64, length: i64) -> i128
     requires area { IsBetween (pos 1) area (pos (5 * 10 ^ 11)) }
@@ -158,8 +159,8 @@ fn pressure(area: i64, fall: i64, dt: i64, length: i64) -> i128
     ensures range { IsWithin (10 ^ 23) result }
 {
     quo(
-        GRAVITY * area as i128 * fall as i128 * dt as i128,
-        1_000_000_000 * length as i128,
+        61_341 * area as i128 * fall as i128 * dt as i128,
+        6_250_000 * length as i128,
     )
 }
 

@@ -5,8 +5,8 @@ use Rattle.fixed_num.specs.Rounding.{quo_of}
 use Rattle.fixed_num.proofs.Bounds.{within_add, within_mul, within_between, fits64, fits128, fits_wider}
 use Rattle.conduit_flow.specs.Geometry.{end_area_of}
 use Rattle.conduit_flow.proofs.RangeLemmas.{half-between, end_area-between}
-use Rattle.conduit_flow.proofs.geometry.end_area.Goals as goal
-use Rattle.conduit_flow.proofs.geometry.end_area.Goals.{After-quo-one, After-min}
+use Rattle.conduit_flow.proofs.geometry.wide_end_area.Goals as goal
+use Rattle.conduit_flow.proofs.geometry.wide_end_area.Goals.{After-quo-one, After-min}
 
 half : (c : After-quo-one) → c.quo-one.result ≡ quo_of ((c.args.width +ℤ c.args.middle_width) *ℤ c.args.length) (pos 4_000_000)
 half c =
