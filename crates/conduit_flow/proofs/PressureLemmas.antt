@@ -1,5 +1,5 @@
 -- The quotient of the pressure, of which both sides are divided by 160.
-use Rattle.std.proofs.Common.{◌≡◌, ℕ, suc, ◌+◌, ◌*◌, ℤ, pos, negsuc, ◌*ℤ◌, ◌≤ℤ◌, neg_ℤ, ap, sym, ◌∙◌, arith}
+use Rattle.std.proofs.Common.{◌≡◌, ℕ, zero, suc, ◌+◌, ◌*◌, ℤ, pos, negsuc, ◌*ℤ◌, ◌≤ℤ◌, neg_ℤ, ap, sym, ◌∙◌, arith}
 use Rattle.std.proofs.lemmas.Int.{ints}
 use Rattle.std.proofs.Math.Nat.{mul-div-mul_right}
 use borrow.Author.Differences.{neg_is}
@@ -28,18 +28,39 @@ part (negsuc n) k =
     ∙ ap neg_ℤ (part_from_zero (suc n) k)
     ∙ sym (quo_of-neg (pos (suc n)) (pos k))
 
-factor_out : (x y : ℤ) → (x *ℤ pos 160) *ℤ y ≡ (x *ℤ y) *ℤ pos 160
-factor_out (pos m) (pos n) = omega (arith, ints)
-factor_out (pos m) (negsuc n) = omega (arith, ints)
-factor_out (negsuc m) (pos n) = omega (arith, ints)
-factor_out (negsuc m) (negsuc n) = omega (arith, ints)
+-- ---- a factor taken out of a product
+factor_first : (m : ℕ) (y : ℤ) → (pos m *ℤ pos 160) *ℤ y ≡ (pos m *ℤ y) *ℤ pos 160
+factor_first m (pos n) = omega (arith, ints)
+factor_first m (negsuc n) = omega (arith, ints)
 
-pub pressure_by_part : (area fall dt length : ℤ) → pos 10_000 ≤ℤ length → quo_of (pos 61_341 *ℤ area *ℤ fall *ℤ dt) (pos 6_250_000 *ℤ length) ≡ pressure_of area fall dt length
+neg_times : (n k : ℕ) → neg_ℤ (pos n) *ℤ pos k ≡ neg_ℤ (pos (n * k))
+neg_times zero k = omega (arith, ints)
+neg_times (suc n) k = omega (arith, ints, neg_is (pos (suc n * k)))
+
+factor_out : (x : ℤ) (n : ℕ) → (x *ℤ pos 160) *ℤ pos n ≡ (x *ℤ pos n) *ℤ pos 160
+factor_out (pos m) n = omega (arith, ints)
+factor_out (negsuc m) n =
+    let same : suc m * 160 * n ≡ suc m * n * 160 = omega arith in
+    ap (λ (z : ℤ). z *ℤ pos n) (neg_times (suc m) 160)
+    ∙ neg_times (suc m * 160) n
+    ∙ ap (λ (k : ℕ). neg_ℤ (pos k)) same
+    ∙ sym (neg_times (suc m * n) 160)
+    ∙ sym (ap (λ (z : ℤ). z *ℤ pos 160) (neg_times (suc m) n))
+
+pub pressure_by_part : (area fall dt length : ℤ) → pos 1 ≤ℤ area → pos 0 ≤ℤ dt → pos 10_000 ≤ℤ length
+    → quo_of (pos 61_341 *ℤ area *ℤ fall *ℤ dt) (pos 6_250_000 *ℤ length) ≡ pressure_of area fall dt length
 unfolding pressure_of
-pressure_by_part area fall dt (pos l) h =
-    let first : GRAVITY *ℤ area ≡ (pos 61_341 *ℤ area) *ℤ pos 160 = omega (arith, ints) in
-    let second : GRAVITY *ℤ area *ℤ fall ≡ (pos 61_341 *ℤ area *ℤ fall) *ℤ pos 160 = ap (λ (z : ℤ). z *ℤ fall) first ∙ factor_out (pos 61_341 *ℤ area) fall in
-    let above : GRAVITY *ℤ area *ℤ fall *ℤ dt ≡ (pos 61_341 *ℤ area *ℤ fall *ℤ dt) *ℤ pos 160 = ap (λ (z : ℤ). z *ℤ dt) second ∙ factor_out (pos 61_341 *ℤ area *ℤ fall) dt in
+pressure_by_part (pos a) fall (pos d) (pos l) g t h =
+    let first : GRAVITY *ℤ pos a ≡ pos (61_341 * a) *ℤ pos 160 = omega (arith, ints) in
+    let plain : pos 61_341 *ℤ pos a ≡ pos (61_341 * a) = omega (arith, ints) in
+    let second : GRAVITY *ℤ pos a *ℤ fall ≡ (pos (61_341 * a) *ℤ fall) *ℤ pos 160 = ap (λ (z : ℤ). z *ℤ fall) first ∙ factor_first (61_341 * a) fall in
+    let above : GRAVITY *ℤ pos a *ℤ fall *ℤ pos d ≡ (pos (61_341 * a) *ℤ fall *ℤ pos d) *ℤ pos 160 = ap (λ (z : ℤ). z *ℤ pos d) second ∙ factor_out (pos (61_341 * a) *ℤ fall) d in
     let below : pos 1_000_000_000 *ℤ pos l ≡ pos (6_250_000 * l * 160) = omega (arith, ints) in
-    sym (ap (λ (z : ℤ). quo_of z (pos 1_000_000_000 *ℤ pos l)) above ∙ ap (λ (z : ℤ). quo_of ((pos 61_341 *ℤ area *ℤ fall *ℤ dt) *ℤ pos 160) z) below ∙ part (pos 61_341 *ℤ area *ℤ fall *ℤ dt) (6_250_000 * l))
-pressure_by_part area fall dt (negsuc l) h = absurd h.le
+    let divisor : pos 6_250_000 *ℤ pos l ≡ pos (6_250_000 * l) = omega (arith, ints) in
+    let whole = pos (61_341 * a) *ℤ fall *ℤ pos d in
+    (λ i. quo_of (plain i *ℤ fall *ℤ pos d) (divisor i))
+    ∙ sym (part whole (6_250_000 * l))
+    ∙ sym (λ i. quo_of (above i) (below i))
+pressure_by_part (negsuc a) fall dt length g t h = absurd g.le
+pressure_by_part (pos a) fall (negsuc d) length g t h = absurd t.le
+pressure_by_part (pos a) fall (pos d) (negsuc l) g t h = absurd h.le

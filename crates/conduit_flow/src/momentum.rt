@@ -13,9 +13,10 @@ ghost use Rattle.conduit_flow.specs.Momentum.{momentum_flow_of};
 
 use crate::conduit::ConduitData;
 use crate::geometry::{Ends, Middle};
-use fixed_num::{GRAVITY, cut, quo, root3};
+use fixed_num::{GRAVITY, cut, quo};
 use net_types::Damping;
 use phase_law::LinkFixed;
+use quick_quotients::quick_root3;
 
 // The velocity of a flow through an area, in µm/s.
 #[tactic(auto, using(fixed_num::proofs::Bounds::casts), unfolding(crate::specs::Momentum::velocity_of))]
@@ -171,7 +172,7 @@ fn radius_power(radius: i64) -> i128
     ensures value { result ≡ radius_power_of radius }
     ensures range { IsBetween (pos 1) result (pos (10 ^ 22)) }
 {
-    radius as i128 * root3(radius as i128 * 1_000_000_000)
+    radius as i128 * quick_root3(radius as i128 * 1_000_000_000)
 }
 
 // The part of the flow that friction takes in a step, in 10^-9 of the flow.

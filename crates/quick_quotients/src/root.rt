@@ -86,7 +86,7 @@ fn step(part: u64, inverse: u64) -> u64 {
 }
 
 // The upper half of a product.
-fn high(a: u64, b: u64) -> u64 {
+pub(crate) fn high(a: u64, b: u64) -> u64 {
     let (_, upper) = a.carrying_mul(b, 0);
     upper
 }

@@ -1,4 +1,4 @@
-use crate::{inverse, line_at, nearest, quick_quo, quick_root2, reaches_root};
+use crate::{inverse, line_at, nearest, quick_quo, quick_root2, quick_root3, reaches_root};
 
 #[test]
 fn quotients_need_no_good_inverse(rt: HostRuntime) {
@@ -31,4 +31,13 @@ fn quick_ones_are_the_same(rt: HostRuntime) {
     assert!(rt; quick_root2(16) == 4);
     assert!(rt; quick_root2(4_000_000_000_000) == 2_000_000);
     assert!(rt; quick_root2(i128::MAX) == 13_043_817_825_332_782_212);
+}
+
+#[test]
+fn quick_cube_roots_are_the_same(rt: HostRuntime) {
+    assert!(rt; quick_root3(0) == 0);
+    assert!(rt; quick_root3(26) == 2);
+    assert!(rt; quick_root3(27) == 3);
+    assert!(rt; quick_root3(999_999_999_999_999) == 99_999);
+    assert!(rt; quick_root3(i128::MAX) == 5_541_191_377_756);
 }

@@ -12,8 +12,8 @@ overflow_mul-widths c =
     let product = within_mul (within_between c.requires.widths) (within_between c.requires.length) in
     simp (to_z-of_z, c.ranges.widths, c.ranges.length) (fits64 product tt)
 
-pub quick_quo-requires-clause-a : goal.quick_quo-requires-clause-a
-quick_quo-requires-clause-a c =
+pub quick_quo-one-requires-clause-a : goal.quick_quo-one-requires-clause-a
+quick_quo-one-requires-clause-a c =
     let product = between_mul c.requires.widths c.requires.length in
     simp (to_z-of_z, c.ranges.widths, c.ranges.length, fits64 (within_between product) tt) (between_up product tt tt)
 

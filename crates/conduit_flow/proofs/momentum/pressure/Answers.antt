@@ -24,7 +24,7 @@ value c =
     let p3 = within_mul p2 (within_between (step-between c.requires.dt)) in
     let below = within_mul (within_number 6_250_000) (within_between c.requires.length) in
     let quotient = simp (to_z-of_z, c.ranges.area, fits_wider _ c.ranges.area, c.ranges.fall, fits_wider _ c.ranges.fall, c.ranges.dt, fits_wider _ c.ranges.dt, c.ranges.length, fits_wider _ c.ranges.length, fits128 p1 tt, fits128 p2 tt, fits128 p3 tt, fits128 below tt) at c.quo.ensures.value in
-    quotient ∙ pressure_by_part c.args.area c.args.fall c.args.dt c.args.length c.requires.length.from
+    quotient ∙ pressure_by_part c.args.area c.args.fall c.args.dt c.args.length c.requires.area.from c.requires.dt.least c.requires.length.from
 
 small : (c : After-quo) → IsWithin (10 ^ 23) c.quo.result
 small c = rw (value c) (pressure-within c.requires.area c.requires.fall c.requires.dt c.requires.length)
