@@ -23,7 +23,11 @@ fn a_wave_takes_its_time_through_a_reach(rt: HostRuntime) -> Result<(), Fail> {
 }
 
 // The time in ms after all steps of an input's run; none for an input that has no run.
-fn time_of_input(alloc: Global, input: &[u8], rpt: &mut MemSink) -> Result<Option<i64>, OutOfMemory> {
+fn time_of_input(
+    alloc: Global,
+    input: &[u8],
+    rpt: &mut MemSink,
+) -> Result<Option<i64>, OutOfMemory> {
     if input.len() > INPUT_LIMIT {
         return Ok(None);
     }
@@ -34,7 +38,11 @@ fn time_of_input(alloc: Global, input: &[u8], rpt: &mut MemSink) -> Result<Optio
     }
 }
 
-fn time_of_project(alloc: Global, project: Project, rpt: &mut MemSink) -> Result<Option<i64>, OutOfMemory>
+fn time_of_project(
+    alloc: Global,
+    project: Project,
+    rpt: &mut MemSink,
+) -> Result<Option<i64>, OutOfMemory>
     requires { IsSound project }
 {
     let faults = check(alloc, &project)?;
@@ -44,7 +52,11 @@ fn time_of_project(alloc: Global, project: Project, rpt: &mut MemSink) -> Result
     }
 }
 
-fn time_of_faultless(alloc: Global, project: Project, rpt: &mut MemSink) -> Result<Option<i64>, OutOfMemory>
+fn time_of_faultless(
+    alloc: Global,
+    project: Project,
+    rpt: &mut MemSink,
+) -> Result<Option<i64>, OutOfMemory>
     requires { IsFaultless project }
 {
     built_is_told();
@@ -54,7 +66,11 @@ fn time_of_faultless(alloc: Global, project: Project, rpt: &mut MemSink) -> Resu
     Ok(None)
 }
 
-fn time_of_run(alloc: Global, project: Project, rpt: &mut MemSink) -> Result<Option<i64>, OutOfMemory>
+fn time_of_run(
+    alloc: Global,
+    project: Project,
+    rpt: &mut MemSink,
+) -> Result<Option<i64>, OutOfMemory>
     requires faultless { IsFaultless project }
     requires built { IsBuilt project }
 {
