@@ -12,7 +12,7 @@ use crate::opening::node_stage;
 use link_eval::HydraulicLaw;
 use net_types::Project;
 use phase_law::{LinkFixed, NodeFixed, PhaseLaw};
-use time_series::lateral_flow;
+use time_series::constant_lateral;
 use trial_model::Nets;
 
 // Makes a state ready for the trials of a step of this length in ms: the flows, heads and net inflows of the state stay
@@ -124,7 +124,7 @@ fn node_start(
     NodeFixed {
         h_old: heads[place],
         net_old: nodes[place].lateral + inflows[place] - outflows[place],
-        lateral: lateral_flow(project, n, 0),
+        lateral: constant_lateral(project, n),
         stage: node_stage(project, n),
         dt,
     }

@@ -2,6 +2,7 @@
 use Rattle.std.proofs.Common.{◌≡◌, ℕ, zero, suc, ◌<◌, List, [], ◌∷◌, length, get_or, Option, Some, None, ℤ, pos}
 use Rattle.std.proofs.Common.{◌+ℤ◌, refl, sym, ap, ◌∙◌, arith}
 use Rattle.std.specs.List.{All}
+use Rattle.std.proofs.lemmas.Int.{ints}
 use Rattle.calendar_steps.specs.declared.point.CalendarPoint.{CalendarPoint}
 use Rattle.fixed_num.specs.Sums.{sum_over}
 use Rattle.net_types.specs.declared.inflows.DryFlow.{DryFlow}
@@ -33,3 +34,14 @@ same_gross project node m n h =
     let one = dry (run_point project m) in
     let two = dry (run_point project n) in
     cc
+
+-- the sum of constant inflows at any point of the calendar
+pub constant_gross : (project : Project) (node : ℕ) (any : CalendarPoint) (sum : ℤ) → HasBuiltInflows project
+    → sum ≡ sum_over (inflow_at project (pos 0) any node) project.inflows → sum ≡ gross_lateral project node (pos 0)
+unfolding gross_lateral
+constant_gross project node any sum h e =
+    let point = run_point project (pos 0) in
+    let sums = same_sum project (pos 0) (pos 0) any point node project.inflows h.each in
+    let dry : sum_over (dry_at project point node) project.dry ≡ pos 0 = ap (λ (xs : List DryFlow). sum_over (dry_at project point node) xs) h.no_dry in
+    let whole : sum ≡ sum_over (inflow_at project (pos 0) point node) project.inflows = e ∙ sums in
+    rw dry (whole ∙ omega (arith, ints))

@@ -6,7 +6,7 @@ ghost use Rattle.fixed_num.specs.Sums.{sum_over};
 ghost use Rattle.net_types.specs.Ranges.{DryFlowInRange, InflowInRange};
 ghost use Rattle.net_types.specs.Sound.{DryFlowNames, InflowNames, IsSound};
 ghost use Rattle.time_series.specs.Inflows.{dry_at as dry_part, inflow_at as inflow_part};
-ghost use Rattle.time_series.specs.LateralFlow.{gross_lateral, lateral_at, run_point, IsRunMoment};
+ghost use Rattle.time_series.specs.LateralFlow.{gross_lateral, lateral_at, lateral_of, run_point, HasBuiltInflows, IsRunMoment};
 
 use crate::amounts::{dry_flow, inflow_flow};
 use calendar_steps::{CalendarPoint, point_at};
@@ -26,6 +26,25 @@ pub fn lateral_flow(project: &Project, node: u32, moment: i64) -> i64
 {
     let at = run_point(project, moment);
     let gross = inflow_sum(project, node, moment, &at) + dry_sum(project, node, &at);
+    cut(gross, -1_000_000_000_000, 1_000_000_000_000) as i64
+}
+
+/// The lateral inflow in cm³/s of a node of a project of which all inflows are constant: that of all moments. It asks
+/// no calendar.
+///
+/// Source: User's Manual, section [INFLOWS]; the rounding is this project's profile.
+pub fn constant_lateral(project: &Project, node: u32) -> i64
+    requires sound { IsSound project.now }
+    requires constant { HasBuiltInflows project.now }
+    ensures value { result ≡ lateral_of project.now node }
+    ensures range { IsFlow result }
+{
+    let any = CalendarPoint {
+        month: 1,
+        weekday: 1,
+        ms_of_day: 0,
+    };
+    let gross = inflow_sum(project, node, 0, &any);
     cut(gross, -1_000_000_000_000, 1_000_000_000_000) as i64
 }
 

@@ -17,7 +17,7 @@ mod stages;
 mod tests;
 mod walk;
 
-pub use lateral::lateral_flow;
+pub use lateral::{constant_lateral, lateral_flow};
 pub use laws::constant_inflows_stay;
 pub use patterns::pattern_factor;
 pub use series::value_between;

@@ -16,11 +16,6 @@ overflow_sub-result c =
     let outflow : FitsSigned w64 (number c.args.outflows.now n) = search rules in
     simp (to_z-of_z, lateral, inflow, outflow, fits64 (gross_within c.requires.last i) tt) (fits64 (net_within c.requires.last i o) tt)
 
-pub lateral_flow-requires-clause-calendar : goal.lateral_flow-requires-clause-calendar
-lateral_flow-requires-clause-calendar c =
-    let start = c.requires.project.faultless.sound.options.start_in in
-    record { from = omega (arith, ints, start.from); to = omega (arith, ints, start.to) }
-
 pub returns : goal.returns
 returns c =
     let n = c.args.n in
@@ -30,11 +25,11 @@ returns c =
     let lateral : FitsSigned w64 (node_fixed_at c.args.nodes.now n).lateral = search rules in
     let inflow : FitsSigned w64 (number c.args.inflows.now n) = search rules in
     let outflow : FitsSigned w64 (number c.args.outflows.now n) = search rules in
-    let next : FitsSigned w64 c.lateral_flow.result = search rules in
+    let next : FitsSigned w64 c.constant_lateral.result = search rules in
     let stage : FitsSigned w64 c.node_stage.result = search rules in
     same_node
     (to_z-of_z w64 _ head)
     (simp (to_z-of_z, lateral, inflow, outflow, fits64 (gross_within c.requires.last i) tt, fits64 (net_within c.requires.last i o) tt) refl)
-    (to_z-of_z w64 _ next ∙ c.lateral_flow.ensures.value)
+    (to_z-of_z w64 _ next ∙ c.constant_lateral.ensures.value)
     (to_z-of_z w64 _ stage ∙ c.node_stage.ensures)
     (to_z-of_z w64 _ c.ranges.dt)
