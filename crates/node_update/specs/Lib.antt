@@ -1,3 +1,3 @@
-pub mod Network
+pub mod OutfallConduits
 pub mod NodeLaws
 pub mod NodeUpdate
