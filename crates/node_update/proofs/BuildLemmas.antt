@@ -9,7 +9,7 @@ use Rattle.fixed_num.specs.Ranges.{IsBetween, IsDepth, IsElevation}
 use Rattle.fixed_num.specs.Units.{IsUnit}
 use Rattle.inp_values.specs.Units.{is_us, unit_for}
 use Rattle.inp_values.specs.declared.quantities.Quantity.TheVariants.{Depth, NodeArea}
-use Rattle.net_types.specs.Ranges.{OptionsInRange}
+use Rattle.net_types.specs.Ranges.{NodeInRange, OptionsInRange}
 use Rattle.net_types.specs.Records.{no_node, node_at}
 use Rattle.net_types.specs.Sound.{IsSound}
 use Rattle.net_types.specs.declared.network.Node.{Node}
@@ -59,6 +59,9 @@ module _ (project : Project) (n : ℕ) (inside : n < length project.nodes) where
 
   pub end_inside : (end : Option ℕ) → end ≡ ending_link project.links n (length project.links) → IfSome end (λ l. l < length project.links)
   end_inside end e = subst (λ (o : Option ℕ). IfSome o (λ l. l < length project.links)) (sym e) (ending_inside project.links n (length project.links) (length project.links) (omega arith))
+
+  pub node_in : IsSound project → (node : Node) → node ≡ node_at project.nodes n → NodeInRange node
+  node_in sound node e = subst NodeInRange (sym e) (sound.ranges.nodes n no_node inside)
 
   pub deep_is : IsFaultless project → (node : Node) → node ≡ node_at project.nodes n → IsTrue (is_storage_kind node.kind) → pos 1_000 ≤ℤ node.y_max
   deep_is f node e =

@@ -23,7 +23,7 @@ impl NodeLaw {
         requires { IsNodeLaw self.now }
         ensures { result ≡ (int_lt (pos 0) pond && int_le (full_level_of self.now) head) }
     {
-        pond > 0 && self.full_level() <= head
+        both(pond > 0, self.full_level() <= head)
     }
 
     // Whether it ponds below this head.
@@ -31,7 +31,7 @@ impl NodeLaw {
         requires { IsNodeLaw self.now }
         ensures { result ≡ (int_lt (pos 0) pond && int_lt (full_level_of self.now) head) }
     {
-        pond > 0 && self.full_level() < head
+        both(pond > 0, self.full_level() < head)
     }
 
     // The own area, in mm², of a junction that ponds over `pond` mm².
@@ -73,6 +73,15 @@ impl NodeLaw {
     {
         prism(self.min_area, self.full) + prism(pond, head - self.full_level())
     }
+}
+
+fn both(first: bool, second: bool) -> bool
+    ensures { result ≡ (first && second) }
+{
+    if first {
+        return second;
+    }
+    false
 }
 
 // The volume of a prism of this area in mm² and this height in µm, in mm³.
