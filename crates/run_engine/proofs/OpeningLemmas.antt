@@ -292,3 +292,21 @@ opening_is project s {h} {heads} {flows} {nodes} same rests e1 e2 e3 =
     (ap (λ (t : Nets). t.links) rests ∙ ap (λ (n : ℕ). replicate n no_link) (sym (law_links project)))
     (e3 ∙ ap (list_of (opening_node project)) count)
     (ap (λ (t : Nets). t.least) rests)
+
+-- the same, where the heads come last
+pub opened_with : (project : Project) (s t : Nets) {h : Hydraulics} {heads flows : List ℤ} {nodes : List NodeFixed}
+    → h ≡ hydraulics_of project → s ≡ resting (length project.nodes) (length project.links)
+    → heads ≡ list_of (opening_head project) (length project.nodes)
+    → flows ≡ list_of (opening_flow project.links) (length project.links)
+    → nodes ≡ list_of (opening_node project) (length project.nodes)
+    → t ≡ record s {
+      flows = flows;
+      nodes = nodes;
+      inflows = list_of (λ n. pos (inflow_of (law_of h) (number flows) n)) (law_of h).nodes;
+      outflows = list_of (λ n. pos (outflow_of (law_of h) (number flows) n)) (law_of h).nodes;
+    }
+    → ◌≡◌ {A = Nets} (record t { heads = heads }) (opening project)
+opened_with project s t {h} {heads} same rests e1 e2 e3 e = ap (λ (x : Nets). record x { heads = heads }) e ∙ opening_is project s same rests e1 e2 e3
+
+pub heads_length : (project : Project) {s : Nets} → s ≡ resting (length project.nodes) (length project.links) → length s.heads ≡ length project.nodes
+heads_length project e = ap (λ (t : Nets). length t.heads) e ∙ length-replicate (length project.nodes) (pos 0)
