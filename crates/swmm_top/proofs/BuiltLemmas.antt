@@ -1,5 +1,5 @@
 -- The test of what is built tells whether it is.
-use Rattle.std.proofs.Common.{◌≡◌, Bool, true, false, not, ◌&&◌, List, [], ◌∷◌, Option, Some, None, refl, pos}
+use Rattle.std.proofs.Common.{◌≡◌, Bool, true, false, ◌&&◌, List, [], ◌∷◌, Option, Some, None, refl, pos}
 use Rattle.std.specs.Bool.{Decides, ⊤}
 use Rattle.std.specs.List.{All, list_all}
 use Rattle.std.specs.Option.{is_none}
@@ -15,12 +15,12 @@ use Rattle.net_types.specs.declared.network.NodeKind.TheVariants.{Junction, Outf
 use Rattle.net_types.specs.declared.network.Stage.{Stage}
 use Rattle.net_types.specs.declared.network.Stage.TheVariants.{Free, Normal, Fixed, Tidal, Series}
 use Rattle.net_types.specs.declared.project.Project.{Project}
-use Rattle.node_update.specs.Network.{HasNodeLaws, IsBuiltKind, IsFixedStage}
+use Rattle.run_engine.specs.Ready.{IsBuiltKind, IsBuiltStage}
 use Rattle.time_series.specs.LateralFlow.{HasBuiltInflows, IsConstant}
 use Rattle.swmm_top.specs.Built.{IsRunnable, are_built_inflows, are_built_links, are_built_nodes, has_no_surface}
 use Rattle.swmm_top.specs.Built.{has_one_step, is_built}
 use Rattle.swmm_top.specs.Built.{is_built_kind, is_built_link, is_built_node, is_constant}
-use Rattle.swmm_top.specs.Built.{is_conduit, is_empty, is_fixed}
+use Rattle.swmm_top.specs.Built.{is_built_stage, is_conduit, is_empty}
 
 yes : Decides true ⊤
 yes = ((λ h. tt), (λ t. refl))
@@ -29,30 +29,27 @@ no : Decides false ⊥
 no = ((λ h. let never : ⊥ = cc in never), (λ n. absurd n))
 
 -- ---- nodes
-fixed_told : (stage : Stage) → Decides (is_fixed stage) (IsFixedStage stage)
-fixed_told Free = no
-fixed_told Normal = no
-fixed_told (Fixed level) = yes
-fixed_told (Tidal curve) = no
-fixed_told (Series series) = no
+stage_told : (stage : Stage) → Decides (is_built_stage stage) (IsBuiltStage stage)
+stage_told Free = yes
+stage_told Normal = yes
+stage_told (Fixed level) = yes
+stage_told (Tidal curve) = no
+stage_told (Series series) = no
 
 kind_told : (kind : NodeKind) → Decides (is_built_kind kind) (IsBuiltKind kind)
 kind_told (Junction surcharge pond) = yes
-kind_told (Outfall stage gated) = fixed_told stage
-kind_told (Storage shape) = no
+kind_told (Outfall stage gated) = stage_told stage
+kind_told (Storage shape) = yes
 
 all_told : {A : Type 0} (test : A → Bool) (P : A → Type 0) → ((x : A) → Decides (test x) (P x)) → (xs : List A) → Decides (list_all test xs) (All P xs)
 all_told test P each xs = Decides-by_and test P (list_all test) each refl (λ x xs. refl) xs
 
-not_told : (b : Bool) → Decides (not b) (b ≡ false)
-not_told true = ((λ h. let never : ⊥ = cc in absurd never), (λ e. let never : ⊥ = cc in absurd never))
-not_told false = ((λ h. refl), (λ e. refl))
+-- the stages of all nodes
+abbrev AreBuiltStages : Project → Type 0
+AreBuiltStages project = All (λ (node : Node). IsBuiltKind node.kind) project.nodes
 
-nodes_told : (project : Project) → Decides (are_built_nodes project) (HasNodeLaws project)
-nodes_told project =
-    Decides-like {P = (project.options.ponding ≡ false) × All (λ (node : Node). IsBuiltKind node.kind) project.nodes} (are_built_nodes project)
-    (λ p. record { nodes = p.1; no_ponding = p.0 }) (λ h. (h.no_ponding, h.nodes))
-    (Decides-and _ _ (not_told project.options.ponding) (all_told is_built_node (λ (node : Node). IsBuiltKind node.kind) (λ node. kind_told node.kind) project.nodes))
+nodes_told : (project : Project) → Decides (are_built_nodes project) (AreBuiltStages project)
+nodes_told project = all_told is_built_node (λ (node : Node). IsBuiltKind node.kind) (λ node. kind_told node.kind) project.nodes
 
 -- ---- links
 conduit_told : (kind : LinkKind) → Decides (is_conduit kind) (IsConduitKind kind)
@@ -98,14 +95,14 @@ bare_told project = Decides-and _ _ (Decides-and _ _ (empty_told project.gages) 
     (Decides-int_eq project.options.variable6 (pos 0))
 
 abbrev Parts : Project → Type 0
-Parts project = HasNodeLaws project × (All IsBuiltLink project.links × (HasBuiltInflows project × Bare project))
+Parts project = AreBuiltStages project × (All IsBuiltLink project.links × (HasBuiltInflows project × Bare project))
 
 parts : (project : Project) → IsRunnable project → Parts project
-parts project h = (h.built.hydraulics.nodes, (h.built.hydraulics.links, (h.built.inflows, ((h.no_gages, h.no_subs), h.one_step))))
+parts project h = (h.built.stages, (h.built.hydraulics.links, (h.built.inflows, ((h.no_gages, h.no_subs), h.one_step))))
 
 whole : (project : Project) → Parts project → IsRunnable project
 whole project p = record {
-  built = record { hydraulics = record { nodes = p.0; links = p.1.0 }; inflows = p.1.1.0 };
+  built = record { stages = p.0; hydraulics = record { links = p.1.0 }; inflows = p.1.1.0 };
   no_gages = p.1.1.1.0.0;
   no_subs = p.1.1.1.0.1;
   one_step = p.1.1.1.1;

@@ -1,6 +1,6 @@
--- Whether all is built that a run needs of a project: junctions and outfalls of fixed stage without ponding,
--- conduits, constant inflows, no rain gages and subcatchments, and steps of one length (User's Manual, appendix D).
-use Rattle.std.specs.Prelude.{◌≡◌, Bool, true, false, not, ◌&&◌, List, [], ◌∷◌, pos}
+-- Whether all is built that a run needs of a project: outfalls whose stage follows no curve and no series, conduits,
+-- constant inflows, no rain gages and subcatchments, and steps of one length (User's Manual, appendix D).
+use Rattle.std.specs.Prelude.{◌≡◌, Bool, true, false, ◌&&◌, List, [], ◌∷◌, pos}
 use Rattle.std.specs.Ordering.{int_eq}
 use Rattle.std.specs.List.{list_all}
 use Rattle.std.specs.Option.{is_none}
@@ -17,17 +17,17 @@ use Rattle.net_types.specs.declared.project.Project.{Project}
 use Rattle.run_engine.specs.Ready.{IsBuilt}
 
 -- ---- nodes
-abbrev pub is_fixed : Stage → Bool
-is_fixed Free = false
-is_fixed Normal = false
-is_fixed (Fixed level) = true
-is_fixed (Tidal curve) = false
-is_fixed (Series series) = false
+abbrev pub is_built_stage : Stage → Bool
+is_built_stage Free = true
+is_built_stage Normal = true
+is_built_stage (Fixed level) = true
+is_built_stage (Tidal curve) = false
+is_built_stage (Series series) = false
 
 abbrev pub is_built_kind : NodeKind → Bool
 is_built_kind (Junction surcharge pond) = true
-is_built_kind (Outfall stage gated) = is_fixed stage
-is_built_kind (Storage shape) = false
+is_built_kind (Outfall stage gated) = is_built_stage stage
+is_built_kind (Storage shape) = true
 
 abbrev pub is_built_node : Node → Bool
 is_built_node node = is_built_kind node.kind
@@ -52,7 +52,7 @@ is_empty (first ∷ more) = false
 
 -- ---- the whole
 abbrev pub are_built_nodes : Project → Bool
-are_built_nodes project = not project.options.ponding && list_all is_built_node project.nodes
+are_built_nodes project = list_all is_built_node project.nodes
 
 abbrev pub are_built_links : Project → Bool
 are_built_links project = list_all is_built_link project.links

@@ -3,7 +3,7 @@ ghost use Rattle.std.specs.Prelude.{◌≡◌};
 ghost use Rattle.std.specs.List.{list_all};
 ghost use Rattle.swmm_top.specs.Built.{are_built_inflows, are_built_links, are_built_nodes};
 ghost use Rattle.swmm_top.specs.Built.{has_no_surface, has_one_step, is_built, is_built_kind, is_built_link};
-ghost use Rattle.swmm_top.specs.Built.{is_built_node, is_conduit, is_constant, is_empty, is_fixed};
+ghost use Rattle.swmm_top.specs.Built.{is_built_node, is_built_stage, is_conduit, is_constant, is_empty};
 
 use net_types::{Inflow, Link, LinkKind, Node, NodeKind, Project, Stage, Sub};
 
@@ -30,13 +30,10 @@ pub fn is_built(project: &Project) -> bool
     project.options.variable6 == 0
 }
 
-// Whether the laws of all nodes are built.
+// Whether the stages of all outfalls are built.
 fn are_built_nodes(project: &Project) -> bool
     ensures { result ≡ are_built_nodes project.now }
 {
-    if project.options.ponding {
-        return false;
-    }
     all_nodes(project.nodes.as_slice())
 }
 
@@ -105,15 +102,15 @@ fn is_built_kind(kind: &NodeKind) -> bool
 {
     match kind {
         NodeKind::Junction { .. } => true,
-        NodeKind::Outfall { stage, .. } => is_fixed(stage),
-        NodeKind::Storage { .. } => false,
+        NodeKind::Outfall { stage, .. } => is_built_stage(stage),
+        NodeKind::Storage { .. } => true,
     }
 }
 
-fn is_fixed(stage: &Stage) -> bool
-    ensures { result ≡ is_fixed stage.now }
+fn is_built_stage(stage: &Stage) -> bool
+    ensures { result ≡ is_built_stage stage.now }
 {
-    matches!(stage, Stage::Fixed(_))
+    matches!(stage, Stage::Free | Stage::Normal | Stage::Fixed(_))
 }
 
 fn is_built_link(link: &Link) -> bool
