@@ -47,7 +47,10 @@ fn section_of_link(line: &Line, naming: Naming) -> Reading<SectionName>
 /// For each link that lines define the section of its line, in the order of the links' numbers: a link is a conduit, a
 /// pump, an orifice or a weir by its section.
 #[tactic(auto, unfolding(crate::specs::Links::link_sections))]
-pub fn read_link_sections(alloc: Global, lines: &List<Line>) -> Result<List<SectionName>, OutOfMemory>
+pub fn read_link_sections(
+    alloc: Global,
+    lines: &List<Line>,
+) -> Result<List<SectionName>, OutOfMemory>
     ensures { IfOk result (λ sections. sections ≡ link_sections lines.now) }
 {
     let mut sections = List::new(alloc);

@@ -39,7 +39,13 @@ impl NodeLaw {
     {
         let heights = full_heights(alloc, project)?;
         let ends = ending_links(alloc, project)?;
-        law_at(alloc, project, heights.as_slice(), ends.as_slice(), node as usize)
+        law_at(
+            alloc,
+            project,
+            heights.as_slice(),
+            ends.as_slice(),
+            node as usize,
+        )
     }
 }
 
@@ -78,7 +84,13 @@ fn law_at(
     ensures range { IfOk result IsNodeLaw }
 {
     let node = &project.nodes.as_slice()[n];
-    let rule = node_rule(alloc, project, &node.kind, node.y_max, found_end(project, ends[n]))?;
+    let rule = node_rule(
+        alloc,
+        project,
+        &node.kind,
+        node.y_max,
+        found_end(project, ends[n]),
+    )?;
     let full = heights[n];
     Ok(NodeLaw {
         rule,

@@ -15,7 +15,10 @@ use std::alloc::Global;
 use xsect_tables::Table;
 
 // For each node the last link that ends there, if one does, by one walk over the links.
-pub(crate) fn ending_links(alloc: Global, project: &Project) -> Result<List<Option<u32>>, OutOfMemory>
+pub(crate) fn ending_links(
+    alloc: Global,
+    project: &Project,
+) -> Result<List<Option<u32>>, OutOfMemory>
     requires { IsSound project.now }
     ensures { IfOk result (λ list. list
         ≡ list_of (λ n. ending_link project.now.links n (length project.now.links)) (length project.now.nodes)) }
@@ -77,7 +80,12 @@ fn link_end(project: &Project, l: u32) -> Option<OutfallConduit>
 }
 
 // What an outfall sees of a link of this kind and section between these inverts, in µm.
-fn kind_end(kind: &LinkKind, section: &Option<Section>, near: i64, far: i64) -> Option<OutfallConduit>
+fn kind_end(
+    kind: &LinkKind,
+    section: &Option<Section>,
+    near: i64,
+    far: i64,
+) -> Option<OutfallConduit>
     requires kind { LinkKindInRange kind.now }
     requires section { IfSome section.now SectionInRange }
     requires near { IsElevation near }
@@ -87,7 +95,11 @@ fn kind_end(kind: &LinkKind, section: &Option<Section>, near: i64, far: i64) -> 
 {
     match kind {
         LinkKind::Conduit {
-            length, n6, z1, z2, ..
+            length,
+            n6,
+            z1,
+            z2,
+            ..
         } => match section {
             Some(section) => Some(OutfallConduit {
                 table: Table::build(section),

@@ -66,7 +66,10 @@ fn a_junction_ponds(rt: HostRuntime) {
     let next = law.next(&fixed, true, 0, 0, 0, 1_000_000);
     assert_eq!(rt; next.head, 1_010_000);
     assert_eq!(rt; law.flood(&fixed, 0, 0, 0, 1_000_000), 0);
-    assert_eq!(rt; law.volume(1_010_000) - law.volume(1_000_000), 1_000_000_000);
+    assert_eq!(rt;
+        law.volume(1_010_000) - law.volume(1_000_000),
+        1_000_000_000
+    );
 }
 
 #[test]

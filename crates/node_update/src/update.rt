@@ -39,7 +39,9 @@ impl NodeLaw {
         ensures place { is_outfall_rule self.now.rule ≡ false → last ≤ℤ self.now.top → result.head ≤ℤ self.now.top }
     {
         match &self.rule {
-            NodeRule::Junction { .. } => self.filled_next(fixed, first, inflow, outflow, area, last),
+            NodeRule::Junction { .. } => self.filled_next(
+                fixed, first, inflow, outflow, area, last,
+            ),
             NodeRule::Storage(_) => self.filled_next(fixed, first, inflow, outflow, area, last),
             NodeRule::Outfall(level) => self.outfall_next(level, fixed, inflow, outflow, area),
         }

@@ -48,7 +48,14 @@ fn open_nets(project: &Project, law: &HydraulicLaw, nets: &mut Nets)
     let nodes = nets.nodes.as_slice();
     let inflows = nets.inflows.as_slice();
     let outflows = nets.outflows.as_slice();
-    open_heads(project, law, nodes, inflows, outflows, nets.heads.as_mut_slice());
+    open_heads(
+        project,
+        law,
+        nodes,
+        inflows,
+        outflows,
+        nets.heads.as_mut_slice(),
+    );
 }
 
 // Sets the initial head of every node, in µm.
@@ -114,8 +121,16 @@ fn open_level(
     ensures { result ≡ opening_level project.now n }
 {
     let place = n as usize;
-    law.node_next(n, &nodes[place], true, inflows[place], outflows[place], 0, 0)
-        .head
+    law.node_next(
+        n,
+        &nodes[place],
+        true,
+        inflows[place],
+        outflows[place],
+        0,
+        0,
+    )
+    .head
 }
 
 // The initial head of a node of this kind, whose law gives this level, in µm.

@@ -239,7 +239,7 @@ unfolding volume_above_of
 volume_above-between table {depth} t d =
     above_in (int_lt (full_depth_of table) depth)
     (λ test. let from = (t.depths 200 (omega arith)).from in
-        prism_of-between (t.areas 200 (omega arith)) (record { from = rising (full_depth_of table) depth test; to = omega (arith, ints, d.within, from) }))
+    prism_of-between (t.areas 200 (omega arith)) (record { from = rising (full_depth_of table) depth test; to = omega (arith, ints, d.within, from) }))
   where
     rising : (a b : ℤ) → int_lt a b ≡ true → pos 0 ≤ℤ (b -ℤ a)
     rising a b h = grind (arith, ints, h)
