@@ -3,3 +3,4 @@ pub mod GeometryLemmas
 pub mod InertiaLemmas
 pub mod TravelLemmas
 pub mod TestLemmas
+pub mod PressureLemmas

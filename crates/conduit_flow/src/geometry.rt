@@ -1,5 +1,7 @@
 // The water that stands in a conduit.
-ghost use Rattle.std.specs.Prelude.{◌≡◌, ◌*◌, ◌^◌, ℤ, pos};
+ghost use Rattle.std.specs.Prelude.{◌≡◌, ◌*◌, ◌^◌, ℤ, pos, ◌*ℤ◌};
+ghost use Rattle.std.specs.Int.{int_min};
+ghost use Rattle.fixed_num.specs.Rounding.{quo_of};
 ghost use Rattle.fixed_num.specs.Ranges.{IsBetween, IsConduitLength, AreBarrels, IsHead, IsWaterDepth};
 ghost use Rattle.conduit_flow.specs.Conduits.{IsConduit, IsConduitTable};
 ghost use Rattle.conduit_flow.specs.Geometry.{surface_of, depth_of, mean_depth_of, mid_area_of, prism_of, volume_of};
@@ -9,6 +11,7 @@ ghost use Rattle.conduit_flow.specs.Geometry.{is_pressurized as pressurized_at};
 
 use crate::conduit::ConduitData;
 use fixed_num::quo;
+use quick_quotients::quick_quo;
 use xsect_tables::{Table, celerity};
 
 // The two ends of a conduit: the water surfaces, the depths and the widths there, in µm, and the areas of flow, in mm².
@@ -114,7 +117,7 @@ pub(crate) fn mean_depth(conduit: &ConduitData, near: i64, far: i64) -> i64
 {
     let depth1 = depth(near, conduit.z1);
     let depth2 = depth(far, conduit.z2);
-    quo(depth1 as i128 + depth2 as i128, 2) as i64
+    quick_quo(depth1 + depth2, 2)
 }
 
 // The water surfaces at the two ends, and the depths, the areas and the widths there.
@@ -172,6 +175,37 @@ fn is_pressurized(table: &Table, depth: i64) -> bool
 // The water surface that a conduit adds to the node at one end.
 #[tactic(auto, using(fixed_num::proofs::Bounds::casts), unfolding(crate::specs::Geometry::end_area_of))]
 pub(crate) fn end_area(width: i64, middle_width: i64, length: i64, barrels: i64) -> i64
+    requires width { IsTableWidth width }
+    requires middle { IsTableWidth middle_width }
+    requires length { IsConduitLength length }
+    requires barrels { AreBarrels barrels }
+    ensures value { result ≡ end_area_of width middle_width length barrels }
+    ensures range { IsBetween (pos 0) result (pos (5 * 10 ^ 12)) }
+{
+    let widths = width + middle_width;
+    if widths <= NARROW {
+        return narrow_end_area(widths, length, barrels);
+    }
+    wide_end_area(width, middle_width, length, barrels)
+}
+
+// Up to this sum of two widths, in µm, the volume below it along a conduit fits 64 bits.
+const NARROW: i64 = 40_000_000;
+
+// The surface of two widths with this sum.
+fn narrow_end_area(widths: i64, length: i64, barrels: i64) -> i64
+    requires widths { IsBetween (pos 0) widths (pos 40_000_000) }
+    requires length { IsConduitLength length }
+    requires barrels { AreBarrels barrels }
+    ensures { result ≡ int_min (pos 5_000_000_000_000) (barrels *ℤ quo_of (widths *ℤ length) (pos 4_000_000)) }
+{
+    let one = quick_quo(widths * length, 4_000_000);
+    5_000_000_000_000_i64.min(barrels * one)
+}
+
+// The surface of any two widths.
+#[tactic(auto, using(fixed_num::proofs::Bounds::casts), unfolding(crate::specs::Geometry::end_area_of))]
+fn wide_end_area(width: i64, middle_width: i64, length: i64, barrels: i64) -> i64
     requires width { IsTableWidth width }
     requires middle { IsTableWidth middle_width }
     requires length { IsConduitLength length }

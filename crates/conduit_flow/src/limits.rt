@@ -1,5 +1,6 @@
 // What bounds the flow of a conduit's barrel.
-ghost use Rattle.std.specs.Prelude.{◌≡◌, ◌*◌, ◌^◌, ℤ, pos, ◌*ℤ◌, int_lt};
+ghost use Rattle.std.specs.Prelude.{◌≡◌, ◌*◌, ◌/◌, ◌^◌, ℤ, pos, ◌*ℤ◌, int_lt};
+ghost use Rattle.std.specs.Int.RustNames.{unsigned_abs};
 ghost use Rattle.fixed_num.specs.Ranges.{IsWithin, IsBetween, AreBarrels, IsFlow, IsFlowLimit};
 ghost use Rattle.conduit_flow.specs.Conduits.{IsConduit, IsConduitTable};
 ghost use Rattle.conduit_flow.specs.Geometry.{EndsInRange, IsFlowArea, IsTableWidth};
@@ -11,7 +12,7 @@ use crate::conduit::ConduitData;
 use crate::geometry::Ends;
 use fixed_num::{cut, quo};
 use net_types::Limiter;
-use xsect_tables::{Table, celerity};
+use xsect_tables::{Table, reaches_celerity};
 
 // Whether the water surface falls less than the conduit.
 #[tactic(auto, using(fixed_num::proofs::Bounds::casts), unfolding(crate::specs::Limits::is_flatter))]
@@ -34,7 +35,7 @@ fn is_fast(q: i128, area: i64, width: i64) -> bool
     if area <= 0 {
         return false;
     }
-    quo(q * 1_000_000, area as i128) >= celerity(area, width) as i128
+    reaches_celerity(quo(q * 1_000_000, area as i128), area, width)
 }
 
 // Whether a flow runs from the first end to the second.
@@ -118,6 +119,17 @@ pub(crate) fn supplied(ends: &Ends, q: i128) -> i128
     q
 }
 
+// What one barrel may carry of 10^12.
+fn greatest_part(barrels: i64) -> i64
+    requires { AreBarrels barrels }
+    ensures { result ≡ pos (1_000_000_000_000 / unsigned_abs barrels) }
+{
+    if barrels == 1 {
+        return 1_000_000_000_000;
+    }
+    (1_000_000_000_000 / barrels.unsigned_abs()) as i64
+}
+
 // The greatest flow of one barrel.
 #[tactic(auto, using(fixed_num::proofs::Bounds::casts), unfolding(crate::specs::Limits::greatest_of))]
 fn greatest(q_max: i64, barrels: i64) -> i64
@@ -128,7 +140,7 @@ fn greatest(q_max: i64, barrels: i64) -> i64
     // All barrels together carry no more than 10^12.
     ensures whole { IsBetween (pos 0) (barrels *ℤ result) (pos (10 ^ 12)) }
 {
-    let part = (1_000_000_000_000 / barrels.unsigned_abs()) as i64;
+    let part = greatest_part(barrels);
     if q_max == 0 {
         return part;
     }

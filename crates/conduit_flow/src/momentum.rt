@@ -13,9 +13,10 @@ ghost use Rattle.conduit_flow.specs.Momentum.{momentum_flow_of};
 
 use crate::conduit::ConduitData;
 use crate::geometry::{Ends, Middle};
-use fixed_num::{GRAVITY, cut, quo, root3};
+use fixed_num::{GRAVITY, cut, quo};
 use net_types::Damping;
 use phase_law::LinkFixed;
+use quick_quotients::quick_root3;
 
 // The velocity of a flow through an area, in µm/s.
 #[tactic(auto, using(fixed_num::proofs::Bounds::casts), unfolding(crate::specs::Momentum::velocity_of))]
@@ -147,7 +148,8 @@ fn convective(inertia: i64, velocity: i64, rise: i64, dt: i64, length: i64) -> i
     quo(weight as i128 * push, 250_000_000_000_000 * length as i128)
 }
 
-// The flow that the pressure adds in a step, in cm³/s.
+// The flow that the pressure adds in a step, in cm³/s. Both sides of the quotient are divided by 160, so that most
+// numerators fit 64 bits.
 #[tactic(auto, using(fixed_num::proofs::Bounds::casts), unfolding(crate::specs::Momentum::pressure_of))]
 fn pressure(area: i64, fall: i64, dt: i64, length: i64) -> i128
     requires area { IsBetween (pos 1) area (pos (5 * 10 ^ 11)) }
@@ -158,8 +160,8 @@ fn pressure(area: i64, fall: i64, dt: i64, length: i64) -> i128
     ensures range { IsWithin (10 ^ 23) result }
 {
     quo(
-        GRAVITY * area as i128 * fall as i128 * dt as i128,
-        1_000_000_000 * length as i128,
+        61_341 * area as i128 * fall as i128 * dt as i128,
+        6_250_000 * length as i128,
     )
 }
 
@@ -170,7 +172,7 @@ fn radius_power(radius: i64) -> i128
     ensures value { result ≡ radius_power_of radius }
     ensures range { IsBetween (pos 1) result (pos (10 ^ 22)) }
 {
-    radius as i128 * root3(radius as i128 * 1_000_000_000)
+    radius as i128 * quick_root3(radius as i128 * 1_000_000_000)
 }
 
 // The part of the flow that friction takes in a step, in 10^-9 of the flow.

@@ -1,5 +1,5 @@
 -- The account of a step from the parts of its nodes and links, and why it balances.
-use Rattle.std.proofs.Common.{◌≡◌, ℕ, ◌<◌, ℤ, pos, ◌+ℤ◌, ◌-ℤ◌, ◌*ℤ◌, neg_ℤ, refl, sym, ap, ◌∙◌, arith}
+use Rattle.std.proofs.Common.{◌≡◌, ℕ, ◌<◌, Bool, true, false, ℤ, pos, ◌+ℤ◌, ◌-ℤ◌, ◌*ℤ◌, neg_ℤ, refl, sym, ap, ◌∙◌, arith}
 use Rattle.std.specs.Prelude.{int_div}
 use Rattle.std.proofs.lemmas.Int.{ints}
 use Rattle.link_eval.specs.Good.{IsGood}
@@ -8,8 +8,7 @@ use Rattle.link_eval.specs.LawGood.{law_good}
 use Rattle.link_eval.specs.declared.hydraulics.Hydraulics.{Hydraulics}
 use Rattle.net_types.specs.declared.account.StepAccount.{StepAccount}
 use Rattle.node_update.specs.NodeUpdate.{net_of, gain_of, volume_of}
-use Rattle.node_update.specs.declared.node_law.HeadRule.{HeadRule as Rule}
-use Rattle.node_update.specs.declared.node_law.HeadRule.TheVariants.{Junction as JunctionRule, FixedOutfall}
+use Rattle.node_update.specs.NodeLaws.{is_outfall_rule}
 use Rattle.node_update.proofs.UpdateLemmas.{dry_flood, dry_volume}
 use Rattle.trial_model.specs.Fits.{node_fixed_at}
 use Rattle.fixed_num.specs.Lists.{number}
@@ -54,10 +53,10 @@ unfolding account_of
 account_is h before after ms = record { inflow = refl; outfall = refl; flooding = refl; storage = refl; error = refl }
 
 -- ---- a node: what leaves, floods, is stored and is in error is what came in
-all_of : (rule : Rule) (gain flood change : ℤ) → (rule ≡ FixedOutfall → flood ≡ pos 0) → (rule ≡ FixedOutfall → change ≡ pos 0)
-    → left_by rule gain +ℤ flood +ℤ change +ℤ error_by rule gain flood change ≡ gain
-all_of JunctionRule gain flood change dry still = omega (arith, ints)
-all_of FixedOutfall gain flood change dry still = rw (dry refl, still refl) (omega (arith, ints))
+all_of : (outfall : Bool) (gain flood change : ℤ) → (outfall ≡ true → flood ≡ pos 0) → (outfall ≡ true → change ≡ pos 0)
+    → left_by outfall gain +ℤ flood +ℤ change +ℤ error_by outfall gain flood change ≡ gain
+all_of false gain flood change dry still = omega (arith, ints)
+all_of true gain flood change dry still = rw (dry refl, still refl) (omega (arith, ints))
 
 still : (a b : ℤ) → a ≡ pos 0 → b ≡ pos 0 → a -ℤ b ≡ pos 0
 still a b e f = rw (e, f) refl
@@ -65,7 +64,7 @@ still a b e f = rw (e, f) refl
 node_parts : (h : Hydraulics) (before after : Nets) (n : ℕ) → outfall_at h after n +ℤ flood_at h after n +ℤ change_at h before after n +ℤ error_at h before after n ≡ gain_at after n
 node_parts h before after n =
     let law = node_law_at h n in
-    all_of law.rule (gain_at after n) (flood_at h after n) (change_at h before after n)
+    all_of (is_outfall_rule law.rule) (gain_at after n) (flood_at h after n) (change_at h before after n)
     (λ e. dry_flood law (node_fixed_at after.nodes n) (number after.inflows n) (number after.outflows n) (number after.areas n) (number after.read_heads n) e)
     (λ e. still (volume_of law (number after.heads n)) (volume_of law (number before.heads n)) (dry_volume law (number after.heads n) e) (dry_volume law (number before.heads n) e))
 

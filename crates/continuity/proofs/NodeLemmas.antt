@@ -1,5 +1,5 @@
 -- What a step did at one node: its ranges, and its floods in a list.
-use Rattle.std.proofs.Common.{◌≡◌, ℕ, ◌+◌, ◌*◌, ◌^◌, ◌<◌, ◌≤◌, List, length, slice_set, ℤ, pos, ◌+ℤ◌}
+use Rattle.std.proofs.Common.{◌≡◌, ℕ, ◌+◌, ◌*◌, ◌^◌, ◌<◌, ◌≤◌, Bool, true, false, List, length, slice_set, ℤ, pos, ◌+ℤ◌}
 use Rattle.std.proofs.Common.{◌-ℤ◌, ◌≤ℤ◌, unsigned_abs, refl, sym, subst, ◌∙◌, inl, inr, arith}
 use Rattle.std.proofs.Math.Nat.{eq-or-lt_of_le}
 use Rattle.std.proofs.lemmas.Bool.{cases_lt}
@@ -11,10 +11,8 @@ use Rattle.fixed_num.proofs.Bounds.{within_up, within_add, within_mul, between_u
 use Rattle.link_eval.specs.Good.{IsGood}
 use Rattle.link_eval.specs.Hydraulics.{law_of, node_law_at}
 use Rattle.link_eval.specs.declared.hydraulics.Hydraulics.{Hydraulics}
-use Rattle.node_update.specs.NodeLaws.{IsNodeLaw}
+use Rattle.node_update.specs.NodeLaws.{IsNodeLaw, is_outfall_rule}
 use Rattle.node_update.specs.NodeUpdate.{IsNodeFixed, net_of, gain_of, flood_of, volume_of}
-use Rattle.node_update.specs.declared.node_law.HeadRule.{HeadRule as Rule}
-use Rattle.node_update.specs.declared.node_law.HeadRule.TheVariants.{Junction as JunctionRule, FixedOutfall}
 use Rattle.node_update.specs.declared.node_law.NodeLaw.{NodeLaw}
 use Rattle.node_update.proofs.GainLemmas.{half_within, inflow_between, outflow_between}
 use Rattle.node_update.proofs.UpdateLemmas.{flood_between, flood_most, dry_flood, volume_within}
@@ -47,10 +45,10 @@ no_more {flood} {gain} {m} h k p = record { within = omega (arith, ints, p.withi
 none_within : {flood : ℤ} {m : ℕ} → flood ≡ pos 0 → IsWithin m flood
 none_within {flood} {m} e = rw e (record { within = omega (arith, ints) })
 
-by_rule : (rule : Rule) {law : NodeLaw} {fixed : NodeFixed} {i o a : ℤ} (last : ℤ) → law.rule ≡ rule → IsNodeLaw law → IsNodeFixed fixed → SumsInRange i o a
-    → (law.rule ≡ JunctionRule → fixed.h_old ≤ℤ law.top) → IsWithin (95 * 10 ^ 21) (flood_of law fixed i o a last)
-by_rule JunctionRule {law} {fixed} last e l f s below = no_more (flood_between last l f s).from (flood_most fixed last l s (below e)) (gain_small f s)
-by_rule FixedOutfall {law} {fixed} {i} {o} {a} last e l f s below = none_within (dry_flood law fixed i o a last e)
+by_kind : (outfall : Bool) {law : NodeLaw} {fixed : NodeFixed} {i o a : ℤ} (last : ℤ) → is_outfall_rule law.rule ≡ outfall → IsNodeLaw law → IsNodeFixed fixed → SumsInRange i o a
+    → (is_outfall_rule law.rule ≡ false → fixed.h_old ≤ℤ law.top) → IsWithin (95 * 10 ^ 21) (flood_of law fixed i o a last)
+by_kind false {law} {fixed} last e l f s below = no_more (flood_between last l f s).from (flood_most fixed last l s (below e)) (gain_small f s)
+by_kind true {law} {fixed} {i} {o} {a} last e l f s below = none_within (dry_flood law fixed i o a last e)
 
 -- ---- all that a step did at a node
 module _ (h : Hydraulics) (good : IsGood h) (n : ℕ) (inside : n < (law_of h).nodes) where
@@ -62,7 +60,7 @@ module _ (h : Hydraulics) (good : IsGood h) (n : ℕ) (inside : n < (law_of h).n
 
   pub flood_in : {before after : Nets} {ms : ℤ} → Fits (law_of h) after → IsStepOf h before after ms → IsBelowTops h before → IsWithin (95 * 10 ^ 21) (flood_at h after n)
   flood_in {before} {after} fits step tops =
-      by_rule (node_law_at h n).rule (number after.read_heads n) refl (node_law_in h good n inside) (fixed_in h (fits.nodes.each n inside)) (fits.sums.each n inside)
+      by_kind (is_outfall_rule (node_law_at h n).rule) (number after.read_heads n) refl (node_law_in h good n inside) (fixed_in h (fits.nodes.each n inside)) (fits.sums.each n inside)
       (λ e. subst (λ (z : ℤ). z ≤ℤ (node_law_at h n).top) (sym (step.each n inside).head) (tops.each n inside e))
 
   pub flood_positive : {after : Nets} → Fits (law_of h) after → IsBetween (pos 0) (flood_at h after n) (pos (10 ^ 25))

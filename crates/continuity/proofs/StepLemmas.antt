@@ -1,10 +1,10 @@
 -- The trials of a step keep what the account of the step asks for.
-use Rattle.std.proofs.Common.{◌≡◌, ℕ, zero, suc, ◌<◌, Bool, eqb, List, ℤ, ◌≤ℤ◌, pos, refl, sym, subst, ◌∙◌, arith}
+use Rattle.std.proofs.Common.{◌≡◌, ℕ, zero, suc, ◌<◌, Bool, false, eqb, List, ℤ, ◌≤ℤ◌, pos, refl, sym, subst, ◌∙◌, arith}
 use Rattle.std.proofs.lemmas.List.FromFn.{get_or-map-range_with_len}
 use Rattle.link_eval.specs.Good.{IsGood}
 use Rattle.link_eval.specs.Hydraulics.{law_of, node_law_at}
 use Rattle.link_eval.specs.declared.hydraulics.Hydraulics.{Hydraulics}
-use Rattle.node_update.specs.declared.node_law.HeadRule.TheVariants.{Junction as JunctionRule}
+use Rattle.node_update.specs.NodeLaws.{is_outfall_rule}
 use Rattle.node_update.proofs.UpdateLemmas.{next_place}
 use Rattle.phase_law.specs.Law.{Law}
 use Rattle.phase_law.specs.declared.values.NodeFixed.{NodeFixed}
@@ -32,8 +32,8 @@ step_of_trials h before opened ms k step = record {
   each = λ n inside. subst (λ (nodes : List NodeFixed). IsFixedOf before ms n (node_fixed_at nodes n)) (sym (trials_nodes (law_of h) opened k)) (step.each n inside);
 }
 
--- ---- no junction's head goes above its top
-next_head : (h : Hydraulics) → IsGood h → (n : ℕ) → n < (law_of h).nodes → (node_law_at h n).rule ≡ JunctionRule → (fixed : NodeFixed) (first : Bool) (i o a last : ℤ)
+-- ---- no head but an outfall's goes above its top
+next_head : (h : Hydraulics) → IsGood h → (n : ℕ) → n < (law_of h).nodes → is_outfall_rule (node_law_at h n).rule ≡ false → (fixed : NodeFixed) (first : Bool) (i o a last : ℤ)
     → last ≤ℤ (node_law_at h n).top → ((law_of h).next n fixed first i o a last).head ≤ℤ (node_law_at h n).top
 unfolding law_of
 next_head h good n inside e fixed first i o a last below = next_place fixed first i o a last (node_law_in h good n inside) e below

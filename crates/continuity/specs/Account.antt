@@ -1,11 +1,10 @@
 -- The account of a routing step (this project's profile).
-use Rattle.std.specs.Prelude.{◌≡◌, ℕ, List, ℤ, pos, ◌+ℤ◌, ◌-ℤ◌, ◌*ℤ◌, int_div}
+use Rattle.std.specs.Prelude.{◌≡◌, ℕ, Bool, if◌then◌else◌, List, ℤ, pos, ◌+ℤ◌, ◌-ℤ◌, ◌*ℤ◌, int_div}
 use Rattle.link_eval.specs.Hydraulics.{law_of, node_law_at, volume_at}
 use Rattle.link_eval.specs.declared.hydraulics.Hydraulics.{Hydraulics}
 use Rattle.net_types.specs.declared.account.StepAccount.{StepAccount}
 use Rattle.node_update.specs.NodeUpdate.{gain_of, flood_of, volume_of}
-use Rattle.node_update.specs.declared.node_law.HeadRule.{HeadRule as Rule}
-use Rattle.node_update.specs.declared.node_law.HeadRule.TheVariants.{Junction as JunctionRule, FixedOutfall}
+use Rattle.node_update.specs.NodeLaws.{is_outfall_rule}
 use Rattle.trial_model.specs.declared.nets.Nets.{Nets}
 use Rattle.trial_model.specs.Fits.{node_fixed_at}
 use Rattle.fixed_num.specs.Lists.{number, list_of}
@@ -32,21 +31,19 @@ change_at h before after n =
     volume_of (node_law_at h n) (number after.heads n) -ℤ volume_of (node_law_at h n) (number before.heads n)
 
 -- what leaves the network there: an outfall's gain
-abbrev pub left_by : Rule → (gain : ℤ) → ℤ
-left_by JunctionRule gain = pos 0
-left_by FixedOutfall gain = gain
+abbrev pub left_by : (is_outfall : Bool) → (gain : ℤ) → ℤ
+left_by is_outfall gain = if is_outfall then gain else pos 0
 
 -- what is missing or too much: at a node that is no outfall, the gain less what flooded and what it holds more
-abbrev pub error_by : Rule → (gain flood change : ℤ) → ℤ
-error_by JunctionRule gain flood change = gain -ℤ flood -ℤ change
-error_by FixedOutfall gain flood change = pos 0
+abbrev pub error_by : (is_outfall : Bool) → (gain flood change : ℤ) → ℤ
+error_by is_outfall gain flood change = if is_outfall then pos 0 else gain -ℤ flood -ℤ change
 
 abbrev pub outfall_at : Hydraulics → (after : Nets) → ℕ → ℤ
-outfall_at h after n = left_by (node_law_at h n).rule (gain_at after n)
+outfall_at h after n = left_by (is_outfall_rule (node_law_at h n).rule) (gain_at after n)
 
 abbrev pub error_at : Hydraulics → (before after : Nets) → ℕ → ℤ
 error_at h before after n =
-    error_by (node_law_at h n).rule (gain_at after n) (flood_at h after n) (change_at h before after n)
+    error_by (is_outfall_rule (node_law_at h n).rule) (gain_at after n) (flood_at h after n) (change_at h before after n)
 
 -- ---- a link
 -- the volume of water in it in a state, and how much more it holds than before

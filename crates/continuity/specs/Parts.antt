@@ -1,10 +1,10 @@
 -- What one node and one link add to the account of a step.
-use Rattle.std.specs.Prelude.{ℕ, ◌*◌, ◌^◌, ℤ, pos, neg_ℤ, ◌*ℤ◌, int_div}
+use Rattle.std.specs.Prelude.{ℕ, Bool, ◌*◌, ◌^◌, ℤ, pos, neg_ℤ, ◌*ℤ◌, int_div}
 use Rattle.fixed_num.specs.Ranges.{IsWithin}
 use Rattle.link_eval.specs.Hydraulics.{node_law_at}
 use Rattle.link_eval.specs.declared.hydraulics.Hydraulics.{Hydraulics}
 use Rattle.net_types.specs.declared.account.StepAccount.{StepAccount}
-use Rattle.node_update.specs.declared.node_law.HeadRule.{HeadRule as Rule}
+use Rattle.node_update.specs.NodeLaws.{is_outfall_rule}
 use Rattle.trial_model.specs.declared.nets.Nets.{Nets}
 use Rattle.continuity.specs.Account.{laterals_at, gain_at, flood_at, change_at, link_change, left_by, error_by}
 use Rattle.continuity.specs.declared.node_part.NodeStep.{NodeStep}
@@ -18,14 +18,14 @@ node_step h before after ms n = record {
   change = change_at h before after n;
 }
 
--- the account of a node of this rule
-abbrev pub rule_part : Rule → NodeStep → StepAccount
-rule_part rule step = record {
+-- the account of a node, which may be an outfall
+abbrev pub step_part : (is_outfall : Bool) → NodeStep → StepAccount
+step_part is_outfall step = record {
   inflow = step.inflow;
-  outfall = left_by rule step.gain;
+  outfall = left_by is_outfall step.gain;
   flooding = step.flood;
   storage = step.change;
-  error = error_by rule step.gain step.flood step.change;
+  error = error_by is_outfall step.gain step.flood step.change;
 }
 
 -- its ranges
@@ -36,7 +36,7 @@ pub record IsStepWithin (step : NodeStep) : Type 0 where
   pub change : IsWithin (2 * 10 ^ 21) step.change
 
 unfoldable pub node_part : Hydraulics → (before after : Nets) (ms : ℤ) → ℕ → StepAccount
-node_part h before after ms n = rule_part (node_law_at h n).rule (node_step h before after ms n)
+node_part h before after ms n = step_part (is_outfall_rule (node_law_at h n).rule) (node_step h before after ms n)
 
 -- the account of a link that holds so much more than before
 abbrev pub changed : (change : ℤ) → StepAccount

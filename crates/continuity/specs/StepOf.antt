@@ -1,9 +1,9 @@
 -- How the states before and after a routing step belong together (this project's profile).
-use Rattle.std.specs.Prelude.{◌≡◌, ℕ, ◌<◌, ℤ, ◌≤ℤ◌}
+use Rattle.std.specs.Prelude.{◌≡◌, ℕ, ◌<◌, false, ℤ, ◌≤ℤ◌}
 use Rattle.link_eval.specs.Hydraulics.{law_of, node_law_at}
 use Rattle.link_eval.specs.declared.hydraulics.Hydraulics.{Hydraulics}
 use Rattle.node_update.specs.NodeUpdate.{net_of}
-use Rattle.node_update.specs.declared.node_law.HeadRule.TheVariants.{Junction as JunctionRule}
+use Rattle.node_update.specs.NodeLaws.{is_outfall_rule}
 use Rattle.phase_law.specs.declared.values.NodeFixed.{NodeFixed}
 use Rattle.trial_model.specs.declared.nets.Nets.{Nets}
 use Rattle.trial_model.specs.Fits.{node_fixed_at}
@@ -20,7 +20,7 @@ pub record IsFixedOf (before : Nets) (ms : ℤ) (n : ℕ) (fixed : NodeFixed) : 
 pub record IsStepOf (h : Hydraulics) (before after : Nets) (ms : ℤ) : Type 0 where
   pub each : (n : ℕ) → n < (law_of h).nodes → IsFixedOf before ms n (node_fixed_at after.nodes n)
 
--- no junction's head is above its top
+-- the head of a node that is no outfall is not above its top
 pub record IsBelowTops (h : Hydraulics) (nets : Nets) : Type 0 where
-  pub each : (n : ℕ) → n < (law_of h).nodes → (node_law_at h n).rule ≡ JunctionRule
+  pub each : (n : ℕ) → n < (law_of h).nodes → is_outfall_rule (node_law_at h n).rule ≡ false
       → number nets.heads n ≤ℤ (node_law_at h n).top

@@ -4,14 +4,14 @@ ghost use Rattle.fixed_num.specs.Ranges.{IsWithin, IsFlow, IsStepLength};
 ghost use Rattle.link_eval.specs.Hydraulics.{law_of};
 ghost use Rattle.trial_model.specs.Fits.{Fits, HeadsFit, node_fixed_at};
 ghost use Rattle.continuity.specs.Account.{floods_of, change_at, gain_at};
-ghost use Rattle.continuity.specs.Parts.{IsStepWithin, node_part, rule_part};
+ghost use Rattle.continuity.specs.Parts.{IsStepWithin, node_part, step_part};
 ghost use Rattle.continuity.specs.StepOf.{IsBelowTops, IsStepOf};
 ghost use Rattle.continuity.specs.Sums.{FieldsWithin, total_of};
 
 use crate::sum::{no_account, plus};
 use link_eval::HydraulicLaw;
 use net_types::StepAccount;
-use node_update::{HeadRule, node_gain};
+use node_update::node_gain;
 use phase_law::{NodeFixed, PhaseLaw};
 use trial_model::Nets;
 
@@ -73,7 +73,7 @@ fn part_of(
         flood: floods[node as usize],
         change: change_at(law, before, after, node),
     };
-    rule_part(law.node(node).rule, &step)
+    step_part(law.node(node).is_outfall(), &step)
 }
 
 // What comes in by lateral inflow, in mm³: half the step by the old and the new lateral inflow.
@@ -119,26 +119,26 @@ fn change_at(law: &HydraulicLaw, before: &Nets, after: &Nets, node: u32) -> i128
     at.volume(new[node as usize]) - at.volume(old[node as usize])
 }
 
-// The account of a node of this rule.
-pub(crate) fn rule_part(rule: HeadRule, step: &NodeStep) -> StepAccount
+// The account of a node, which may be an outfall.
+pub(crate) fn step_part(is_outfall: bool, step: &NodeStep) -> StepAccount
     requires step { IsStepWithin step.now }
-    ensures value { result ≡ rule_part rule step.now }
+    ensures value { result ≡ step_part is_outfall step.now }
     ensures range { FieldsWithin (2 * 10 ^ 23) result }
 {
-    match rule {
-        HeadRule::Junction => StepAccount {
-            inflow: step.inflow,
-            outfall: 0,
-            flooding: step.flood,
-            storage: step.change,
-            error: step.gain - step.flood - step.change,
-        },
-        HeadRule::FixedOutfall => StepAccount {
+    if is_outfall {
+        return StepAccount {
             inflow: step.inflow,
             outfall: step.gain,
             flooding: step.flood,
             storage: step.change,
             error: 0,
-        },
+        };
+    }
+    StepAccount {
+        inflow: step.inflow,
+        outfall: 0,
+        flooding: step.flood,
+        storage: step.change,
+        error: step.gain - step.flood - step.change,
     }
 }

@@ -3,18 +3,17 @@ ghost use Rattle.continuity.specs.Account.{Balances};
 ghost use Rattle.continuity.specs.Sums.{FieldsWithin};
 
 use crate::link_part::changed;
-use crate::node_part::{NodeStep, rule_part};
+use crate::node_part::{NodeStep, step_part};
 use crate::run::RunAccount;
 use crate::sum::plus;
 use net_types::StepAccount;
-use node_update::HeadRule;
 
 // The first ten seconds of a channel between a junction and an outfall: 100 l/s come in at the junction, and
 // 4,932 cm³/s reach the outfall at the end.
 #[test]
 fn parts_make_the_account_of_a_step(rt: HostRuntime) {
-    let junction = rule_part(
-        HeadRule::Junction,
+    let junction = step_part(
+        false,
         &NodeStep {
             inflow: 1_000_000_000,
             gain: 975_340_000,
@@ -22,8 +21,8 @@ fn parts_make_the_account_of_a_step(rt: HostRuntime) {
             change: 493_850_000,
         },
     );
-    let outfall = rule_part(
-        HeadRule::FixedOutfall,
+    let outfall = step_part(
+        true,
         &NodeStep {
             inflow: 0,
             gain: 24_660_000,

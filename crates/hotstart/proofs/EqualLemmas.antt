@@ -33,7 +33,7 @@ cut_at (a ∷ cs) (b ∷ bs) xs ys n e =
     record { front = ap (λ (x : ℕ). x ∷ cs) first ∙ ap (λ (l : List ℕ). b ∷ l) later.front; rest = later.rest }
 
 -- ---- counts
-count_length : (n : ℕ) → length (count_bytes n) ≡ 4
+pub count_length : (n : ℕ) → length (count_bytes n) ≡ 4
 unfolding count_bytes
 count_length n = length-bytes_low_first 0 4 n
 
@@ -52,13 +52,13 @@ count_front a b xs ys h g e =
 pub record Fits (value : ℤ) : Type 0 where
   pub fits : FitsSigned w64 value
 
-within_fits : (m : ℕ) (value : ℤ) → m ≤ 10 ^ 15 → IsWithin m value → Fits value
+pub within_fits : (m : ℕ) (value : ℤ) → m ≤ 10 ^ 15 → IsWithin m value → Fits value
 within_fits m value h w = record { fits = omega (arith, ints, h, w.within) }
 
-between_fits : (m : ℕ) (value : ℤ) → m ≤ 10 ^ 15 → IsBetween (pos 0) value (pos m) → Fits value
+pub between_fits : (m : ℕ) (value : ℤ) → m ≤ 10 ^ 15 → IsBetween (pos 0) value (pos m) → Fits value
 between_fits m value h b = record { fits = omega (arith, ints, h, b.from, b.to) }
 
-value_length : (v : ℤ) → length (value_bytes v) ≡ 8
+pub value_length : (v : ℤ) → length (value_bytes v) ≡ 8
 unfolding value_bytes
 value_length v = length-bytes_low_first 0 8 (cast_unsigned w64 v)
 
@@ -75,7 +75,7 @@ value_front a b xs ys f g e =
     let cut = cut_at (value_bytes a) (value_bytes b) xs ys (value_length a ∙ sym (value_length b)) e in
     record { front = value_is a b f g cut.front; rest = cut.rest }
 
-later_all : {A : Type 0} (P : A → Type 0) (x : A) (xs : List A) → All P (x ∷ xs) → All P xs
+pub later_all : {A : Type 0} (P : A → Type 0) (x : A) (xs : List A) → All P (x ∷ xs) → All P xs
 later_all P x xs all k d h = all (suc k) d (omega (arith, h))
 
 -- so many values
@@ -120,7 +120,7 @@ links_front (a ∷ f) (b ∷ s) (c ∷ g) (d ∷ t) xs ys n m o ff fs fg ft e =
     }
 
 -- ---- subcatchments
-kept_same : (value : ℤ) → value ≤ℤ pos (10 ^ 15) → kept value ≡ value
+pub kept_same : (value : ℤ) → value ≤ℤ pos (10 ^ 15) → kept value ≡ value
 unfolding kept
 kept_same value h = omega (arith, ints, clamps)
 
@@ -151,7 +151,7 @@ infil_is CurveNumber (Number s) (Number t) a b e =
     ∙ ap (λ (x : ℤ). Number (record { room = t.room; event_room = t.event_room; rain = t.rain; taken = x; dry = s.dry })) taken
     ∙ ap (λ (x : ℤ). Number (record { room = t.room; event_room = t.event_room; rain = t.rain; taken = t.taken; dry = x })) dry
 
-infil_count : (method : InfilKind) (i j : InfilState) → IsStateOf method i → IsStateOf method j → length (infil_numbers i) ≡ length (infil_numbers j)
+pub infil_count : (method : InfilKind) (i j : InfilState) → IsStateOf method i → IsStateOf method j → length (infil_numbers i) ≡ length (infil_numbers j)
 infil_count ModifiedHorton (Horton s) (Horton t) a b = refl
 infil_count ModifiedHorton (Horton s) (Number t) a b = absurd b
 infil_count ModifiedHorton (Number s) j a b = absurd a
@@ -160,16 +160,16 @@ infil_count CurveNumber (Number s) (Horton t) a b = absurd b
 infil_count CurveNumber (Number s) (Number t) a b = refl
 
 -- a subcatchment, and one with three depths; a state
-abbrev hot_sub : (depths : List ℤ) (flow : ℤ) (infil : InfilState) → HotSub
+abbrev pub hot_sub : (depths : List ℤ) (flow : ℤ) (infil : InfilState) → HotSub
 hot_sub depths flow infil = record { depths = depths; flow = flow; infil = infil }
 
-abbrev three_hot : (d0 d1 d2 flow : ℤ) (infil : InfilState) → HotSub
+abbrev pub three_hot : (d0 d1 d2 flow : ℤ) (infil : InfilState) → HotSub
 three_hot d0 d1 d2 flow infil = record { depths = d0 ∷ d1 ∷ d2 ∷ []; flow = flow; infil = infil }
 
 abbrev state_of : InfilKind → (heads flows settings : List ℤ) → (least : ℤ) → (subs : List HotSub) → HotState
 state_of kind heads flows settings least subs = record { kind = kind; heads = heads; flows = flows; settings = settings; least = least; subs = subs }
 
-row_is : (d0 d1 d2 flow : ℤ) (infil : InfilState) → All (λ value. value ≤ℤ pos (10 ^ 15)) (d0 ∷ d1 ∷ d2 ∷ infil_numbers infil)
+pub row_is : (d0 d1 d2 flow : ℤ) (infil : InfilState) → All (λ value. value ≤ℤ pos (10 ^ 15)) (d0 ∷ d1 ∷ d2 ∷ infil_numbers infil)
     → kept d0 ∷ kept d1 ∷ kept d2 ∷ flow ∷ map kept (infil_numbers infil) ≡ d0 ∷ d1 ∷ d2 ∷ flow ∷ infil_numbers infil
 row_is d0 d1 d2 flow infil most =
     ap (λ (x : ℤ). x ∷ kept d1 ∷ kept d2 ∷ flow ∷ map kept (infil_numbers infil)) (kept_same d0 (most 0 d0 (omega arith)))
@@ -177,7 +177,7 @@ row_is d0 d1 d2 flow infil most =
     ∙ ap (λ (x : ℤ). d0 ∷ d1 ∷ x ∷ flow ∷ map kept (infil_numbers infil)) (kept_same d2 (most 2 d2 (omega arith)))
     ∙ ap (λ (l : List ℤ). d0 ∷ d1 ∷ d2 ∷ flow ∷ l) (kept_all (infil_numbers infil) (λ k d h. most (suc (suc (suc k))) d (omega (arith, h))))
 
-row_fits : (d0 d1 d2 flow : ℤ) (infil : InfilState) → All (λ value. pos 0 ≤ℤ value) (d0 ∷ d1 ∷ d2 ∷ infil_numbers infil)
+pub row_fits : (d0 d1 d2 flow : ℤ) (infil : InfilState) → All (λ value. pos 0 ≤ℤ value) (d0 ∷ d1 ∷ d2 ∷ infil_numbers infil)
     → All (λ value. value ≤ℤ pos (10 ^ 15)) (d0 ∷ d1 ∷ d2 ∷ infil_numbers infil) → IsBetween (pos 0) flow (pos (10 ^ 12)) → All Fits (d0 ∷ d1 ∷ d2 ∷ flow ∷ infil_numbers infil)
 row_fits d0 d1 d2 flow infil low high f zero d h = amounts_fit (d0 ∷ d1 ∷ d2 ∷ infil_numbers infil) low high 0 d (omega arith)
 row_fits d0 d1 d2 flow infil low high f (suc zero) d h = amounts_fit (d0 ∷ d1 ∷ d2 ∷ infil_numbers infil) low high 1 d (omega arith)
@@ -192,7 +192,7 @@ pub record IsThree (l : List ℤ) : Type 0 where
   pub three : ℤ
   pub is : l ≡ one ∷ two ∷ three ∷ []
 
-three_parts : (l : List ℤ) → length l ≡ 3 → IsThree l
+pub three_parts : (l : List ℤ) → length l ≡ 3 → IsThree l
 three_parts [] h = absurd (omega (arith, h))
 three_parts (a ∷ []) h = absurd (omega (arith, h))
 three_parts (a ∷ b ∷ []) h = absurd (omega (arith, h))
@@ -256,15 +256,15 @@ kind_same ModifiedHorton CurveNumber e = absurd (omega (arith, e))
 kind_same CurveNumber ModifiedHorton e = absurd (omega (arith, e))
 kind_same CurveNumber CurveNumber e = refl
 
-kind_small : (a : InfilKind) → kind_number a < 2 ^ 32
+pub kind_small : (a : InfilKind) → kind_number a < 2 ^ 32
 kind_small ModifiedHorton = omega arith
 kind_small CurveNumber = omega arith
 
 -- what follows the header
-body : HotState → List ℕ
+pub body : HotState → List ℕ
 body state = flat_map value_bytes state.heads ++ (flat_map link_bytes (zip state.flows state.settings) ++ (value_bytes state.least ++ flat_map sub_bytes state.subs))
 
-whole_is : (state : HotState) → hot_bytes state ≡ header state ++ body state
+pub whole_is : (state : HotState) → hot_bytes state ≡ header state ++ body state
 unfolding hot_bytes body
 whole_is state =
     append_assoc (header state ++ flat_map value_bytes state.heads) (flat_map link_bytes (zip state.flows state.settings)) (value_bytes state.least ++ flat_map sub_bytes state.subs)
@@ -291,7 +291,7 @@ pub record SameHeader (s t : HotState) : Type 0 where
   pub subs : length s.subs ≡ length t.subs
   pub kinds : s.kind ≡ t.kind
 
-header_length : (s : HotState) → length (header s) ≡ 24
+pub header_length : (s : HotState) → length (header s) ≡ 24
 header_length s = omega (
   arith,
   length-append (codes "SWMMFXH2") (flat_map count_bytes (length s.heads ∷ length s.flows ∷ length s.subs ∷ kind_number s.kind ∷ [])),
@@ -308,10 +308,10 @@ headers_same s t hs ht e =
     let last = count_front (kind_number s.kind) (kind_number t.kind) [] [] (kind_small s.kind) (kind_small t.kind) third.rest in
     record { nodes = first.front; links = second.front; subs = third.front; kinds = kind_same s.kind t.kind last.front }
 
-within_all : (m : ℕ) (values : List ℤ) → m ≤ 10 ^ 15 → All (IsWithin m) values → All Fits values
+pub within_all : (m : ℕ) (values : List ℤ) → m ≤ 10 ^ 15 → All (IsWithin m) values → All Fits values
 within_all m values h all k d g = within_fits m _ h (all k d g)
 
-between_all : (m : ℕ) (values : List ℤ) → m ≤ 10 ^ 15 → All (λ v. IsBetween (pos 0) v (pos m)) values → All Fits values
+pub between_all : (m : ℕ) (values : List ℤ) → m ≤ 10 ^ 15 → All (λ v. IsBetween (pos 0) v (pos m)) values → All Fits values
 between_all m values h all k d g = between_fits m _ h (all k d g)
 
 bodies_same : (s t : HotState) → IsKept s → IsKept t → SameHeader s t → body s ≡ body t → s ≡ t

@@ -3,3 +3,9 @@ pub mod WriteLemmas
 pub mod ColumnLemmas
 pub mod ReadLemmas
 pub mod EqualLemmas
+pub mod StandLemmas
+pub mod GoodLemmas
+pub mod SubLemmas
+pub mod BackLemmas
+pub mod KeptLemmas
+pub mod OldLemmas

@@ -3,3 +3,4 @@ pub mod HotBytes
 pub mod Layout
 pub mod Checks
 pub mod Reading
+pub mod WrittenBack

@@ -3,7 +3,8 @@
 //! [`write_hot`] puts the bytes of a state (`specs/HotBytes`), [`read_hot`] reads them for a project. Of a file
 //! that isn't one for the project it tells the first fault, in the order of the bytes (`specs/Layout`); else
 //! the state in it (`specs/Reading`). Version 2 is written; versions 1 and 2 are read. Which states can be
-//! written stands in `specs/HotRanges`.
+//! written stands in `specs/HotRanges`; that a written file is read back, and how version 1 is read, are laws over
+//! `specs/WrittenBack`.
 #![tactic(auto)]
 
 mod checks;
@@ -15,7 +16,7 @@ mod shape;
 mod state;
 mod write;
 
-pub use laws::bytes_have_one_state;
+pub use laws::{bytes_have_one_state, old_file_is_migrated, written_is_read_back};
 pub use read::{HotRead, read_hot};
 pub use state::{HotState, HotSub};
 pub use write::write_hot;

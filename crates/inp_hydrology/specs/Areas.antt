@@ -2,6 +2,7 @@
 -- profile), and the subareas of an input.
 use Rattle.std.specs.Prelude.{ℕ, List, Option, Some, None}
 use Rattle.net_types.specs.declared.faults.LineFault.{LineFault}
+use Rattle.net_types.specs.declared.hydrology.Sub.{Sub}
 use Rattle.inp_lines.specs.declared.line.Line.{Line}
 use Rattle.inp_lines.specs.declared.line.SectionName.TheVariants as section
 use Rattle.inp_forms.specs.declared.item.Objects.TheVariants as objects
@@ -9,6 +10,7 @@ use Rattle.inp_forms.specs.Context.{Context}
 use Rattle.inp_forms.specs.Forms.{RowForm, Forms}
 use Rattle.inp_forms.specs.Getters.{amount_at, index_at}
 use Rattle.inp_owners.specs.Owners.{owned_fault, owned_of, owner_of}
+use Rattle.inp_owners.specs.Placing.{with_owned}
 use Rattle.inp_hydrology.specs.declared.areas.OwnAreas.{OwnAreas}
 use Rattle.inp_hydrology.specs.declared.areas.TheConstants.{AREAS}
 
@@ -42,3 +44,15 @@ areas_of known lines = owned_of known objects.Subcatchments area_forms lines
 -- the fault of a line of subareas, none or one, by the lines before it
 abbrev pub areas_fault : Context → List Line → Line → List LineFault
 areas_fault known = owned_fault known objects.Subcatchments area_forms
+
+-- ---- subcatchments with their subareas
+abbrev pub sub_of_areas : OwnAreas → ℕ
+sub_of_areas own = own.sub
+
+-- a subcatchment that gains subareas
+abbrev pub with_own_areas : OwnAreas → Sub → Sub
+with_own_areas own sub = record sub { sub_areas = Some own.areas }
+
+-- subcatchments, each with the subareas that are its own
+unfoldable pub with_areas : List OwnAreas → List Sub → List Sub
+with_areas areas subs = with_owned sub_of_areas with_own_areas areas subs

@@ -2,6 +2,7 @@
 -- Manual, section [INFILTRATION]; ranges and faults are this project's profile), and those of an input.
 use Rattle.std.specs.Prelude.{ℕ, List, Option, Some, None}
 use Rattle.net_types.specs.declared.faults.LineFault.{LineFault}
+use Rattle.net_types.specs.declared.hydrology.Sub.{Sub}
 use Rattle.net_types.specs.declared.hydrology.Infil.TheVariants.{Horton, Number}
 use Rattle.net_types.specs.declared.options.InfilKind.{InfilKind}
 use Rattle.net_types.specs.declared.options.InfilKind.TheVariants.{ModifiedHorton, CurveNumber}
@@ -12,6 +13,7 @@ use Rattle.inp_forms.specs.Context.{Context}
 use Rattle.inp_forms.specs.Forms.{RowForm, Forms}
 use Rattle.inp_forms.specs.Getters.{amount_at, index_at}
 use Rattle.inp_owners.specs.Owners.{owned_fault, owned_of, owner_of}
+use Rattle.inp_owners.specs.Placing.{with_owned}
 use Rattle.inp_hydrology.specs.declared.soil.OwnInfil.{OwnInfil}
 use Rattle.inp_hydrology.specs.declared.soil.TheConstants.{HORTON, CURVE_NUMBER}
 
@@ -53,3 +55,15 @@ soil_of method known lines = owned_of known objects.Subcatchments (soil_forms me
 -- the fault of a line of infiltration numbers, none or one, by the lines before it
 abbrev pub soil_fault : InfilKind → Context → List Line → Line → List LineFault
 soil_fault method known = owned_fault known objects.Subcatchments (soil_forms method)
+
+-- ---- subcatchments with their infiltration numbers
+abbrev pub sub_of_infil : OwnInfil → ℕ
+sub_of_infil own = own.sub
+
+-- a subcatchment that gains infiltration numbers
+abbrev pub with_own_infil : OwnInfil → Sub → Sub
+with_own_infil own sub = record sub { infil = Some own.infil }
+
+-- subcatchments, each with the infiltration numbers that are its own
+unfoldable pub with_infil : List OwnInfil → List Sub → List Sub
+with_infil soil subs = with_owned sub_of_infil with_own_infil soil subs

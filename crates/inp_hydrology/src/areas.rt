@@ -4,15 +4,16 @@ ghost use Rattle.inp_lines.specs.Faults.{cut};
 ghost use Rattle.inp_lines.specs.Gather.{gather};
 ghost use Rattle.inp_forms.specs.Context.{context_of};
 ghost use Rattle.inp_forms.specs.Forms.{form_name, form_reading};
-ghost use Rattle.inp_hydrology.specs.Areas.{area_form, area_forms, area_name, areas_fault, areas_of};
+ghost use Rattle.inp_hydrology.specs.Areas.{area_form, area_forms, area_name, areas_fault, areas_of, sub_of_areas};
+ghost use Rattle.inp_hydrology.specs.Areas.{with_areas, with_own_areas};
 
 use inp_forms::{
     Form, Item, Keyword, Known, Objects, Value, What, Words, amount, index, name_row, read_row,
 };
 use inp_lines::{Kind, Line, Naming, Reading, RecordKind, SectionName, read_kind};
-use inp_owners::owner_name;
+use inp_owners::{Owned, owner_name, place_owned};
 use inp_values::Quantity;
-use net_types::{LineFault, List, OutOfMemory, SubAreas};
+use net_types::{LineFault, List, OutOfMemory, Sub, SubAreas};
 use std::alloc::Global;
 
 /// The items of subareas: subcatchment, roughness of the impervious and of the pervious part, their depression
@@ -116,4 +117,28 @@ pub fn read_areas<'a>(
     ensures faults { IfOk result (λ faults. faults ≡ cut (gather (areas_fault (context_of known.now)) [] lines.now)) }
 {
     read_kind(alloc, &Areas { known }, lines, areas)
+}
+
+impl Owned for OwnAreas {
+    type Object = Sub;
+
+    ghost number_of = { sub_of_areas };
+
+    ghost changed = { with_own_areas };
+
+    fn number(&self) -> u32 {
+        self.sub
+    }
+
+    fn change(&self, sub: &mut Sub) {
+        sub.sub_areas = Some(self.areas);
+    }
+}
+
+/// Gives subcatchments their subareas.
+#[tactic(auto, unfolding(crate::specs::Areas::with_areas))]
+pub fn place_areas(subs: &mut List<Sub>, areas: &List<OwnAreas>)
+    ensures { subs.new ≡ with_areas areas.now subs.old }
+{
+    place_owned(subs, areas);
 }

@@ -5,13 +5,13 @@ ghost use Rattle.inp_lines.specs.Gather.{gather};
 ghost use Rattle.inp_forms.specs.Context.{context_of};
 ghost use Rattle.inp_forms.specs.Forms.{form_name, form_reading, row_name, row_reading};
 ghost use Rattle.inp_hydrology.specs.Soil.{horton_form, infil_form, number_form, soil_fault, soil_forms, soil_name};
-ghost use Rattle.inp_hydrology.specs.Soil.{soil_of};
+ghost use Rattle.inp_hydrology.specs.Soil.{soil_of, sub_of_infil, with_infil, with_own_infil};
 
 use inp_forms::{Form, Item, Known, Objects, Value, What, amount, index, name_row, read_row};
 use inp_lines::{Kind, Line, Naming, Reading, RecordKind, SectionName, read_kind};
-use inp_owners::owner_name;
+use inp_owners::{Owned, owner_name, place_owned};
 use inp_values::Quantity;
-use net_types::{Infil, InfilKind, LineFault, List, OutOfMemory};
+use net_types::{Infil, InfilKind, LineFault, List, OutOfMemory, Sub};
 use std::alloc::Global;
 
 /// The items of the modified Horton method: subcatchment, greatest and least rate, decay, drying time, greatest volume.
@@ -177,4 +177,28 @@ pub fn read_soil<'a>(
         (context_of known.now)) [] lines.now)) }
 {
     read_kind(alloc, &Soil { method, known }, lines, soil)
+}
+
+impl Owned for OwnInfil {
+    type Object = Sub;
+
+    ghost number_of = { sub_of_infil };
+
+    ghost changed = { with_own_infil };
+
+    fn number(&self) -> u32 {
+        self.sub
+    }
+
+    fn change(&self, sub: &mut Sub) {
+        sub.infil = Some(self.infil);
+    }
+}
+
+/// Gives subcatchments their infiltration numbers.
+#[tactic(auto, unfolding(crate::specs::Soil::with_infil))]
+pub fn place_infil(subs: &mut List<Sub>, soil: &List<OwnInfil>)
+    ensures { subs.new ≡ with_infil soil.now subs.old }
+{
+    place_owned(subs, soil);
 }

@@ -1,6 +1,6 @@
 -- The forms of the lines that give links (User's Manual, sections [CONDUITS], [PUMPS], [ORIFICES] and [WEIRS]; ranges
 -- and faults are this project's profile), and the links of an input. Their cross-sections stand in another section.
-use Rattle.std.specs.Prelude.{ℕ, pos, Bool, true, false, List, [], Option, Some, None}
+use Rattle.std.specs.Prelude.{ℕ, pos, Bool, true, false, if◌then◌else◌, List, [], Option, Some, None}
 use Rattle.net_types.specs.declared.faults.LineFault.{LineFault}
 use Rattle.net_types.specs.declared.network.Link.{Link}
 use Rattle.net_types.specs.declared.network.LinkKind.{LinkKind}
@@ -8,6 +8,10 @@ use Rattle.net_types.specs.declared.network.LinkKind.TheVariants.{Conduit, Pump,
 use Rattle.inp_lines.specs.declared.line.Line.{Line}
 use Rattle.inp_lines.specs.declared.line.SectionName.{SectionName}
 use Rattle.inp_lines.specs.declared.line.SectionName.TheVariants as section
+use Rattle.inp_lines.specs.declared.names.Naming.{Naming}
+use Rattle.inp_lines.specs.declared.names.Naming.TheVariants.{First}
+use Rattle.inp_lines.specs.declared.reading.Reading.{Reading}
+use Rattle.inp_lines.specs.declared.reading.Reading.TheVariants.{Other, Record}
 use Rattle.inp_lines.specs.Faults.{token_at}
 use Rattle.inp_lines.specs.Gather.{gather, record_at, fault_at}
 use Rattle.inp_lines.specs.Names.{defined}
@@ -100,3 +104,17 @@ link_fault known = fault_at link_name (form_reading known link_forms)
 
 abbrev pub is_link_section : SectionName → Bool
 is_link_section name = has_form link_forms name
+
+-- ---- the sections of the lines that define links
+-- whether a line defines a link of its name
+abbrev pub defines_link : Naming → Option (List ℕ) → Bool
+defines_link First (Some name) = true
+defines_link _ _ = false
+
+-- the section of a line that defines a link
+abbrev pub link_section_reading : Naming → Line → Reading SectionName
+link_section_reading naming line = if defines_link naming (link_name line) then Record line.section else Other
+
+-- for each link the section of the line that defines it: the place of a section is the number of the link
+unfoldable pub link_sections : List Line → List SectionName
+link_sections lines = gather (record_at link_name link_section_reading) [] lines

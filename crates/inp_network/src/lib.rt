@@ -11,6 +11,7 @@
 mod conduits;
 mod junctions;
 mod laws;
+mod link_sections;
 mod links;
 mod nodes;
 mod orifices;
@@ -25,5 +26,6 @@ pub use laws::{
     link_faults_are_of_lines, links_are_sound, links_have_one_meaning, node_faults_are_of_lines,
     nodes_are_sound, nodes_have_one_meaning,
 };
+pub use link_sections::read_link_sections;
 pub use links::{number_links, read_links};
 pub use nodes::{number_nodes, read_nodes};

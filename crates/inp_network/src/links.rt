@@ -90,7 +90,7 @@ pub fn read_links<'a>(
 }
 
 /// The name that a line defines for a link.
-fn name_of_link(line: &Line) -> Option<&[u8]>
+pub(crate) fn name_of_link(line: &Line) -> Option<&[u8]>
     ensures { option_map (λ name. name.now) result ≡ link_name line.now }
 {
     match line.section {

@@ -1,5 +1,8 @@
 pub mod TitleLemmas
+pub mod NamedLemmas
+pub mod PlacedLemmas
 pub mod FaultLemmas
+pub mod Given
 pub mod MeaningLemmas
-pub mod RangeLemmas
+pub mod ReadLemmas
 pub mod SoundLemmas

@@ -1,213 +1,187 @@
 -- What lines without a fault mean.
-use Rattle.std.proofs.Common.{◌≡◌, ◌++◌, ◌∷◌, [], ℕ, true, false, Bool, cond, nat_lt, length, List, Option, Some, None, Result, Ok, Err, refl, ap, sym, ◌∙◌, subst, ◌≤◌, arith}
-use Rattle.std.specs.List.{All, AllZip, filter}
-use Rattle.std.proofs.lemmas.Bool.Decides.{nat_tests}
-use Rattle.std.proofs.lemmas.List.Elements.{All-nil, All-cons}
-use Rattle.net_types.specs.declared.inflows.Inflow.{Inflow}
+use Rattle.std.proofs.Common.{◌≡◌, ◌++◌, ◌∷◌, [], List, refl, ap, sym, ◌∙◌}
+use Rattle.net_types.specs.declared.faults.LineFault.{LineFault}
+use Rattle.net_types.specs.declared.hydrology.Sub.{Sub}
 use Rattle.net_types.specs.declared.network.Link.{Link}
-use Rattle.net_types.specs.declared.network.Node.{Node}
-use Rattle.net_types.specs.declared.options.FlowUnits.{FlowUnits}
-use Rattle.net_types.specs.declared.options.Options.{Options}
+use Rattle.net_types.specs.declared.options.InfilKind.{InfilKind}
 use Rattle.net_types.specs.declared.project.Project.{Project}
-use Rattle.inp_lines.specs.declared.fault.Fault.{Fault}
 use Rattle.inp_lines.specs.declared.line.Line.{Line}
-use Rattle.inp_lines.specs.declared.line.SectionName.{SectionName}
-use Rattle.inp_lines.specs.declared.line.SectionName.TheVariants as section
-use Rattle.inp_lines.specs.declared.names.Naming.{Naming}
-use Rattle.inp_lines.specs.declared.names.Naming.TheVariants.{First, Repeated, OverLimit}
-use Rattle.inp_lines.specs.declared.reading.Reading.TheVariants.{Other}
-use Rattle.inp_lines.specs.Faults.{token_at, too_few_of}
 use Rattle.inp_lines.specs.Gather.{gather}
-use Rattle.inp_lines.specs.Readings.{is_long, first_token, new_name_of, and_then, reading_from}
+use Rattle.inp_lines.specs.Names.{number_in}
 use Rattle.inp_lines.specs.Sources.{both_of}
-use Rattle.inp_objects.specs.Conduits.{conduit_of, link_from, link_reading}
-use Rattle.inp_objects.specs.Meaning.{IsConduit, MeansObjects}
-use Rattle.inp_objects.specs.Objects.{link_name, is_link_line}
-use Rattle.inp_objects.specs.Records.{node_number, nodes_of, links_of, inflows_of, node_fault, link_fault, inflow_fault, object_fault, object_faults}
-use Rattle.inp_objects.proofs.FaultLemmas.{both_none}
-use Rattle.inp_objects.proofs.MeaningLemmas.{means_objects, means_one}
+use Rattle.constant_inflows.proofs.InflowLemmas.{inflows_mean, inflows_one}
+use Rattle.inp_forms.specs.Context.{Context}
+use Rattle.inp_forms.specs.declared.item.Objects.TheVariants as objects
+use Rattle.inp_forms.proofs.FormLemmas.{forms_mean, forms_mean_one}
+use Rattle.inp_owners.proofs.OwnerLemmas.{owned_mean}
+use Rattle.inp_hydrology.specs.Areas.{area_forms, areas_fault, areas_of, with_areas}
+use Rattle.inp_hydrology.specs.Evaporation.{evaporation_fault}
+use Rattle.inp_hydrology.specs.Gages.{gage_fault, gage_forms, gages_of}
+use Rattle.inp_hydrology.specs.Soil.{soil_fault, soil_forms, soil_of, with_infil}
+use Rattle.inp_hydrology.specs.Subcatchments.{sub_fault, sub_forms, subs_of}
+use Rattle.inp_network.specs.Links.{link_fault, link_forms, links_of}
+use Rattle.inp_network.specs.Nodes.{node_fault, node_forms, node_names, nodes_of}
 use Rattle.inp_options.specs.OptionLines.{option_fault}
 use Rattle.inp_options.specs.Options.{units_of, options_of, options_by}
-use Rattle.inp_options.specs.Warnings.{warnings_of}
-use Rattle.inp_tables.specs.LinkSections.{placed_sections}
-use Rattle.inp_tables.specs.SectionLines.{section_fault, section_found}
-use Rattle.inp_tables.specs.SectionMeaning.{AreBareLinks, MeansSections}
-use Rattle.inp_tables.proofs.DistinctLemmas.{Named, names_gathered}
-use Rattle.inp_tables.proofs.MeaningLemmas.{sections_mean}
-use Rattle.inp_tables.proofs.UniqueLemmas.{sections_unique}
-use Rattle.inp_reader.specs.LineFaults.{fault_of_line, line_faults}
+use Rattle.inp_sections.specs.CrossSections.{section_fault, section_forms, sections_of, with_sections}
+use Rattle.inp_sections.specs.Losses.{loss_forms, losses_fault, losses_of, with_losses}
+use Rattle.inp_reader.specs.Known.{known_in, method_of}
+use Rattle.inp_reader.specs.LineFaults.{fault_of_line, inflow_fault, line_faults}
 use Rattle.inp_reader.specs.Meaning.{Means}
+use Rattle.inp_reader.specs.Network.{MeansLinks, full_links, network_fault}
 use Rattle.inp_reader.specs.OtherLines.{other_line_fault}
-use Rattle.inp_reader.specs.Title.{title_of}
+use Rattle.inp_reader.specs.Surface.{MeansSubs, full_subs, surface_fault}
+use Rattle.inp_reader.proofs.Given.{given_project}
 
--- lines mean at most one project
+-- ---- lines mean at most one project
+links_unique : (known : Context) (lines : List Line) (links more : List Link) → MeansLinks known lines links → MeansLinks known lines more → links ≡ more
+links_unique known lines links more p q =
+    let bare = forms_mean_one known link_forms lines p.bare q.bare p.bare_are q.bare_are in
+    let sections = forms_mean_one known section_forms lines p.sections q.sections p.sections_are q.sections_are in
+    let losses = forms_mean_one known loss_forms lines p.losses q.losses p.losses_are q.losses_are in
+    p.links_are ∙ (ap (λ l. with_losses l (with_sections p.sections p.bare)) losses
+    ∙ (ap (λ s. with_losses q.losses (with_sections s p.bare)) sections
+    ∙ (ap (λ b. with_losses q.losses (with_sections q.sections b)) bare ∙ sym q.links_are)))
+
+subs_unique : (method : InfilKind) (known : Context) (lines : List Line) (subs more : List Sub) → MeansSubs method known lines subs → MeansSubs method known lines more → subs ≡ more
+subs_unique method known lines subs more p q =
+    let bare = forms_mean_one known sub_forms lines p.bare q.bare p.bare_are q.bare_are in
+    let areas = forms_mean_one known area_forms lines p.areas q.areas p.areas_are q.areas_are in
+    let soil = forms_mean_one known (soil_forms method) lines p.soil q.soil p.soil_is q.soil_is in
+    p.subs_are ∙ (ap (λ s. with_infil s (with_areas p.areas p.bare)) soil
+    ∙ (ap (λ a. with_infil q.soil (with_areas a p.bare)) areas
+    ∙ (ap (λ b. with_infil q.soil (with_areas q.areas b)) bare ∙ sym q.subs_are)))
+
 pub means_unique : (lines : List Line) (p q : Project) → Means lines p → Means lines q → p ≡ q
 means_unique lines p q a b =
-    let objects = means_one (units_of lines) lines p.nodes q.nodes a.bare_links b.bare_links p.inflows q.inflows a.objects_are b.objects_are in
-    let P : List Link → Type 0 = λ bare. MeansSections (units_of lines) lines bare p.links in
-    let links = sections_unique (units_of lines) lines b.bare_links p.links q.links (subst P objects.1 a.links_are) b.links_are in
+    let known = known_in lines in
     let title = a.title_is ∙ sym b.title_is in
     let warnings = a.warnings_are ∙ sym b.warnings_are in
     let options = a.options_are ∙ sym b.options_are in
-    let gages = a.no_gages ∙ sym b.no_gages in
-    let subs = a.no_subs ∙ sym b.no_subs in
+    let gages = forms_mean_one known gage_forms lines p.gages q.gages a.gages_are b.gages_are in
+    let subs = subs_unique (method_of lines) known lines p.subs q.subs a.subs_are b.subs_are in
+    let nodes = forms_mean_one known node_forms lines p.nodes q.nodes a.nodes_are b.nodes_are in
+    let links = links_unique known lines p.links q.links a.links_are b.links_are in
+    let inflows = inflows_one (units_of lines) (number_in (node_names lines)) lines p.inflows q.inflows a.inflows_are b.inflows_are in
     let curves = a.no_curves ∙ sym b.no_curves in
     let series = a.no_series ∙ sym b.no_series in
     let patterns = a.no_patterns ∙ sym b.no_patterns in
     let dry = a.no_dry ∙ sym b.no_dry in
     let rules = a.no_rules ∙ sym b.no_rules in
-    λ i. record { title = title i; warnings = warnings i; options = options i; gages = gages i; subs = subs i; nodes = objects.0 i; links = links i; curves = curves i; series = series i; patterns = patterns i; inflows = objects.2 i; dry = dry i; rules = rules i }
+    λ i. record { title = title i; warnings = warnings i; options = options i; gages = gages i; subs = subs i; nodes = nodes i; links = links i; curves = curves i; series = series i; patterns = patterns i; inflows = inflows i; dry = dry i; rules = rules i }
 
--- a line that gives a record with its items has its name, which is new
-name_first : (least : ℕ) (tokens : List (List ℕ)) → 1 ≤ least → nat_lt (length tokens) least ≡ false → first_token tokens ≡ Some (token_at tokens 0)
-name_first least [] some h = let none : least ≤ 0 = grind (arith, nat_tests) in absurd (omega (arith, some, none))
-name_first least (token ∷ tokens) some h = refl
+-- ---- where no line is at fault, none is as a record of any kind
+nil_left : {A : Type 0} (xs ys : List A) → xs ++ ys ≡ [] → xs ≡ []
+nil_left [] ys h = refl
+nil_left (x ∷ xs) ys h = cc
 
-pub line_named : {A R : Type 0} (name_in : R → List ℕ) (least : ℕ) (line : Line) (standing : Naming) (make : A → R) → 1 ≤ least → ((items : A) → name_in (make items) ≡ token_at line.tokens 0) → (rest : Result A Fault) (long short : Bool) → nat_lt (length line.tokens) least ≡ short
-    → Named name_in (cond long None (cond short None (first_token line.tokens))) standing
-    (cond long Other (reading_from (and_then (cond short (Err (too_few_of line.tokens)) (and_then (new_name_of standing) (λ _. rest))) (λ items. Ok (make items)))))
-line_named name_in least line standing make some name rest true short e = refl
-line_named name_in least line standing make some name rest false true e = tt
-line_named name_in least line First make some name (Ok items) false false e = (name_first least line.tokens some e ∙ ap (λ n. Some n) (sym (name items)), refl)
-line_named name_in least line First make some name (Err fault) false false e = tt
-line_named name_in least line Repeated make some name rest false false e = tt
-line_named name_in least line OverLimit make some name rest false false e = tt
+nil_right : {A : Type 0} (xs ys : List A) → xs ++ ys ≡ [] → ys ≡ []
+nil_right [] ys h = h
+nil_right (x ∷ xs) ys h = cc
 
-link_named : (units : FlowUnits) (nodes : List ℕ → Option ℕ) (standing : Naming) (line : Line) → Named (λ (link : Link). link.name) (link_name line) standing (link_reading units nodes standing line)
-unfolding conduit_of
-link_named units nodes standing line = at line.«section» line.number line.tokens line.bytes where
-  at : (s : SectionName) (number : ℕ) (tokens : List (List ℕ)) (bytes : List ℕ) → let here : Line = record { number = number; «section» = s; tokens = tokens; bytes = bytes } in Named (λ (link : Link). link.name) (link_name here) standing (link_reading units nodes standing here)
-  at section.Conduits number tokens bytes =
-      let here : Line = record { number = number; «section» = section.Conduits; tokens = tokens; bytes = bytes } in
-      line_named (λ (link : Link). link.name) 7 here standing (link_from here) (omega arith) (λ items. refl) _ (is_long here) (nat_lt (length tokens) 7) refl
-  at _ number tokens bytes = refl
+nil_both : {A : Type 0} (xs ys : List A) → xs ≡ [] → ys ≡ [] → xs ++ ys ≡ []
+nil_both xs ys p q = ap (λ l. l ++ ys) p ∙ q
 
-no_section : (units : FlowUnits) (nodes : List ℕ → Option ℕ) (lines : List Line) (links : List Link) → AllZip (λ line link. IsConduit units nodes line.tokens link) lines links → All (λ (link : Link). link.«section» ≡ None) links
-no_section units nodes [] [] z = All-nil (λ (link : Link). link.«section» ≡ None)
-no_section units nodes [] (link ∷ links) z = absurd z
-no_section units nodes (line ∷ lines) [] z = absurd z
-no_section units nodes (line ∷ lines) (link ∷ links) z = All-cons (λ (link : Link). link.«section» ≡ None) link links z.0.section_is (no_section units nodes lines links z.1)
+both_none : (f g : List Line → Line → List LineFault) (before lines : List Line) → gather (both_of f g) before lines ≡ [] → (gather f before lines ≡ []) × (gather g before lines ≡ [])
+both_none f g before [] h = (refl, refl)
+both_none f g before (line ∷ lines) h =
+    let more = before ++ line ∷ [] in
+    let here = nil_left (f before line ++ g before line) (gather (both_of f g) more lines) h in
+    let rest = both_none f g more lines (nil_right (f before line ++ g before line) (gather (both_of f g) more lines) h) in (
+      nil_both (f before line) (gather f more lines) (nil_left (f before line) (g before line) here) rest.0,
+      nil_both (g before line) (gather g more lines) (nil_right (f before line) (g before line) here) rest.1,
+    )
 
-pub links_bare : (units : FlowUnits) (lines : List Line) → gather (link_fault units lines) [] lines ≡ [] → AllZip (λ line link. IsConduit units (node_number lines) line.tokens link) (filter is_link_line lines) (links_of units lines) → AreBareLinks lines (links_of units lines)
+pub record NoFaults (lines : List Line) : Type 0 where
+  pub nodes : gather (node_fault (known_in lines)) [] lines ≡ []
+  pub links : gather (link_fault (known_in lines)) [] lines ≡ []
+  pub sections : gather (section_fault (known_in lines)) [] lines ≡ []
+  pub losses : gather (losses_fault (known_in lines)) [] lines ≡ []
+  pub gages : gather (gage_fault (known_in lines)) [] lines ≡ []
+  pub subs : gather (sub_fault (known_in lines)) [] lines ≡ []
+  pub areas : gather (areas_fault (known_in lines)) [] lines ≡ []
+  pub soil : gather (soil_fault (method_of lines) (known_in lines)) [] lines ≡ []
+  pub inflows : gather (inflow_fault lines) [] lines ≡ []
+
+pub no_faults : (lines : List Line) → line_faults lines ≡ [] → NoFaults lines
+unfolding fault_of_line network_fault surface_fault
+no_faults lines h =
+    let known = known_in lines in
+    let method = method_of lines in
+    let options = option_fault (units_of lines) in
+    let network = network_fault known in
+    let surface = surface_fault method known in
+    let read = (both_none (both_of (both_of (both_of options network) surface) (inflow_fault lines)) other_line_fault [] lines h).0 in
+    let three = both_none (both_of (both_of options network) surface) (inflow_fault lines) [] lines read in
+    let two = both_none (both_of options network) surface [] lines three.0 in
+    let one = both_none options network [] lines two.0 in
+    let in_network = both_none (both_of (both_of (node_fault known) (link_fault known)) (section_fault known)) (losses_fault known) [] lines one.1 in
+    let in_links = both_none (both_of (node_fault known) (link_fault known)) (section_fault known) [] lines in_network.0 in
+    let objects = both_none (node_fault known) (link_fault known) [] lines in_links.0 in
+    let in_surface = both_none (both_of (both_of (both_of (gage_fault known) (sub_fault known)) (areas_fault known)) (soil_fault method known)) (evaporation_fault known) [] lines two.1 in
+    let in_soil = both_none (both_of (both_of (gage_fault known) (sub_fault known)) (areas_fault known)) (soil_fault method known) [] lines in_surface.0 in
+    let in_areas = both_none (both_of (gage_fault known) (sub_fault known)) (areas_fault known) [] lines in_soil.0 in
+    let land = both_none (gage_fault known) (sub_fault known) [] lines in_areas.0 in
+    record {
+      nodes = objects.0;
+      links = objects.1;
+      sections = in_links.1;
+      losses = in_network.1;
+      gages = land.0;
+      subs = land.1;
+      areas = in_areas.1;
+      soil = in_soil.1;
+      inflows = three.1;
+    }
+
+-- ---- lines without a fault mean the project that they give
+links_mean : (lines : List Line) → NoFaults lines → MeansLinks (known_in lines) lines (full_links (known_in lines) lines)
 unfolding links_of
-links_bare units lines none are = record {
-  named = names_gathered link_name (link_reading units (node_number lines)) (λ link. link.name) (link_named units (node_number lines)) lines none;
-  bare = no_section units (node_number lines) (filter is_link_line lines) (links_of units lines) are;
+links_mean lines none = record {
+  bare = links_of (known_in lines) lines;
+  sections = sections_of (known_in lines) lines;
+  losses = losses_of (known_in lines) lines;
+  bare_are = forms_mean (known_in lines) link_forms lines none.links;
+  sections_are = owned_mean (known_in lines) objects.Links section_forms lines none.sections;
+  losses_are = owned_mean (known_in lines) objects.Conduits loss_forms lines none.losses;
+  links_are = refl;
 }
 
--- where no line is at fault, none is as an object or as a cross-section
-pub record NoFaults (units : FlowUnits) (lines : List Line) : Type 0 where
-  pub objects : object_faults units lines ≡ []
-  pub nodes : gather (node_fault units) [] lines ≡ []
-  pub links : gather (link_fault units lines) [] lines ≡ []
-  pub sections : gather (section_fault units lines) [] lines ≡ []
+subs_mean : (lines : List Line) → NoFaults lines → MeansSubs (method_of lines) (known_in lines) lines (full_subs (method_of lines) (known_in lines) lines)
+unfolding subs_of
+subs_mean lines none = record {
+  bare = subs_of (known_in lines) lines;
+  areas = areas_of (known_in lines) lines;
+  soil = soil_of (method_of lines) (known_in lines) lines;
+  bare_are = forms_mean (known_in lines) sub_forms lines none.subs;
+  areas_are = owned_mean (known_in lines) objects.Subcatchments area_forms lines none.areas;
+  soil_is = owned_mean (known_in lines) objects.Subcatchments (soil_forms (method_of lines)) lines none.soil;
+  subs_are = refl;
+}
 
-pub no_faults : (lines : List Line) → line_faults lines ≡ [] → NoFaults (units_of lines) lines
-unfolding fault_of_line object_fault
-no_faults lines h =
-    let units = units_of lines in
-    let options = option_fault units in
-    let objects = object_fault units lines in
-    let sections = section_fault units lines in
-    let read = (both_none (both_of (both_of options objects) sections) other_line_fault [] lines h).0 in
-    let two = both_none (both_of options objects) sections [] lines read in
-    let one = both_none options objects [] lines two.0 in
-    let parts = both_none (both_of (node_fault units) (link_fault units lines)) (inflow_fault units lines) [] lines one.1 in
-    let named = both_none (node_fault units) (link_fault units lines) [] lines parts.0 in
-    record { objects = one.1; nodes = named.0; links = named.1; sections = two.1 }
+pub given_means : (lines : List Line) → line_faults lines ≡ [] → Means lines (given_project lines)
+unfolding given_project nodes_of gages_of
+given_means lines h =
+    let none = no_faults lines h in
+    record {
+      title_is = refl;
+      warnings_are = refl;
+      options_are = refl;
+      gages_are = forms_mean (known_in lines) gage_forms lines none.gages;
+      subs_are = subs_mean lines none;
+      nodes_are = forms_mean (known_in lines) node_forms lines none.nodes;
+      links_are = links_mean lines none;
+      inflows_are = inflows_mean (units_of lines) (number_in (node_names lines)) lines none.inflows;
+      no_curves = refl;
+      no_series = refl;
+      no_patterns = refl;
+      no_dry = refl;
+      no_rules = refl;
+    }
 
--- lines without a fault mean a project
 pub means_some : (lines : List Line) → line_faults lines ≡ [] → (project : Project) × Means lines project
-means_some lines none =
-    let units = units_of lines in
-    let clean = no_faults lines none in
-    let objects = means_objects units lines clean.objects in
-    let bare = links_bare units lines clean.links objects.links_are in
-    let project : Project = record {
-      title = title_of lines;
-      warnings = warnings_of lines;
-      options = options_of lines;
-      gages = [];
-      subs = [];
-      nodes = nodes_of units lines;
-      links = placed_sections 0 (gather (section_found units lines) [] lines) (links_of units lines);
-      curves = [];
-      series = [];
-      patterns = [];
-      inflows = inflows_of units lines;
-      dry = [];
-      rules = [];
-    } in (
-      project,
-      record {
-        title_is = refl;
-        warnings_are = refl;
-        options_are = refl;
-        bare_links = links_of units lines;
-        objects_are = objects;
-        links_are = sections_mean units lines (links_of units lines) clean.sections bare;
-        no_gages = refl;
-        no_subs = refl;
-        no_curves = refl;
-        no_series = refl;
-        no_patterns = refl;
-        no_dry = refl;
-        no_rules = refl;
-      },
-    )
+means_some lines none = (given_project lines, given_means lines none)
 
 pub options_have_units : (lines : List Line) → (options_of lines).units ≡ units_of lines
 unfolding options_of options_by
 options_have_units lines = refl
-
-abbrev pub without_objects : List (List ℕ) → List (List ℕ) → Options → Project
-without_objects title warnings options = record { title = title; warnings = warnings; options = options; gages = []; subs = []; nodes = []; links = []; curves = []; series = []; patterns = []; inflows = []; dry = []; rules = [] }
-
-abbrev pub with_objects : Project → List Line → Project
-with_objects project lines = let units = project.options.units in record project { nodes = project.nodes ++ nodes_of units lines; links = project.links ++ links_of units lines; inflows = project.inflows ++ inflows_of units lines }
-
-abbrev pub MeantObjects : FlowUnits → List Line → Type 0
-MeantObjects units lines = object_faults units lines ≡ [] → MeansObjects units lines (nodes_of units lines) (links_of units lines) (inflows_of units lines)
-
-abbrev pub MeantSections : FlowUnits → List Line → List Link → List Link → Type 0
-MeantSections units lines bare links = gather (section_fault units lines) [] lines ≡ [] → AreBareLinks lines bare → MeansSections units lines bare links
-
-same_objects : (units : FlowUnits) (lines : List Line) (a b : List Node) (c d : List Link) (e f : List Inflow) → a ≡ b → c ≡ d → e ≡ f → MeansObjects units lines b d f → MeansObjects units lines a c e
-same_objects units lines a b c d e f p q r h =
-    let P : List Node → Type 0 = λ x. MeansObjects units lines x c e in
-    let Q : List Link → Type 0 = λ x. MeansObjects units lines b x e in
-    let R : List Inflow → Type 0 = λ x. MeansObjects units lines b d x in
-    subst P (sym p) (subst Q (sym q) (subst R (sym r) h))
-
--- the project that the readers make is the one that the lines mean
-pub project_means : (lines : List Line) (title warnings : List (List ℕ)) (options : Options) (empty tables objects all : Project) (placed : List Link)
-    → title ≡ title_of lines → warnings ≡ warnings_of lines → options ≡ options_of lines
-    → empty ≡ without_objects title warnings options → tables ≡ empty
-    → objects ≡ with_objects tables lines → MeantObjects tables.options.units lines
-    → all ≡ record objects { links = placed } → MeantSections objects.options.units lines objects.links all.links
-    → line_faults lines ≡ [] → Means lines all
-project_means lines title warnings options empty tables objects all placed title_is warnings_are options_are first same more objects_mean last sections_mean none =
-    let start = same ∙ first in
-    let units = ap (λ p. p.options.units) start ∙ (ap (λ o. o.units) options_are ∙ options_have_units lines) in
-    let units_too = ap (λ p. p.options.units) more ∙ units in
-    let clean = no_faults lines none in
-    let meant = subst (λ (u : FlowUnits). MeantObjects u lines) units objects_mean clean.objects in
-    let nodes = ap (λ p. p.nodes) more ∙ (ap (λ p. p.nodes ++ nodes_of p.options.units lines) start ∙ ap (λ u. nodes_of u lines) (sym (ap (λ p. p.options.units) start) ∙ units)) in
-    let links = ap (λ p. p.links) more ∙ (ap (λ p. p.links ++ links_of p.options.units lines) start ∙ ap (λ u. links_of u lines) (sym (ap (λ p. p.options.units) start) ∙ units)) in
-    let inflows = ap (λ p. p.inflows) more ∙ (ap (λ p. p.inflows ++ inflows_of p.options.units lines) start ∙ ap (λ u. inflows_of u lines) (sym (ap (λ p. p.options.units) start) ∙ units)) in
-    let bare = subst (λ (l : List Link). AreBareLinks lines l) (sym links) (links_bare (units_of lines) lines clean.links meant.links_are) in
-    record {
-      title_is = ap (λ p. p.title) last ∙ (ap (λ p. p.title) more ∙ (ap (λ p. p.title) start ∙ title_is));
-      warnings_are = ap (λ p. p.warnings) last ∙ (ap (λ p. p.warnings) more ∙ (ap (λ p. p.warnings) start ∙ warnings_are));
-      options_are = ap (λ p. p.options) last ∙ (ap (λ p. p.options) more ∙ (ap (λ p. p.options) start ∙ options_are));
-      bare_links = objects.links;
-      objects_are = same_objects (units_of lines) lines all.nodes (nodes_of (units_of lines) lines) objects.links (links_of (units_of lines) lines) all.inflows (inflows_of (units_of lines) lines) (ap (λ p. p.nodes) last ∙ nodes) links (ap (λ p. p.inflows) last ∙ inflows) meant;
-      links_are = subst (λ (u : FlowUnits). MeantSections u lines objects.links all.links) units_too sections_mean clean.sections bare;
-      no_gages = ap (λ p. p.gages) last ∙ (ap (λ p. p.gages) more ∙ ap (λ p. p.gages) start);
-      no_subs = ap (λ p. p.subs) last ∙ (ap (λ p. p.subs) more ∙ ap (λ p. p.subs) start);
-      no_curves = ap (λ p. p.curves) last ∙ (ap (λ p. p.curves) more ∙ ap (λ p. p.curves) start);
-      no_series = ap (λ p. p.series) last ∙ (ap (λ p. p.series) more ∙ ap (λ p. p.series) start);
-      no_patterns = ap (λ p. p.patterns) last ∙ (ap (λ p. p.patterns) more ∙ ap (λ p. p.patterns) start);
-      no_dry = ap (λ p. p.dry) last ∙ (ap (λ p. p.dry) more ∙ ap (λ p. p.dry) start);
-      no_rules = ap (λ p. p.rules) last ∙ (ap (λ p. p.rules) more ∙ ap (λ p. p.rules) start);
-    }

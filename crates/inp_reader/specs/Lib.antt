@@ -1,5 +1,8 @@
 pub mod Title
 pub mod OtherLines
+pub mod Known
+pub mod Network
+pub mod Surface
 pub mod LineFaults
 pub mod Meaning
 pub mod Reading

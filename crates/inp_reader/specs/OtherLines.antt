@@ -1,6 +1,8 @@
 -- Faults of lines that no section reads: lines that are too long, that stand outside of all sections, or in sections
 -- that aren't built yet (User's Manual, appendix D; the numbers are this project's profile).
-use Rattle.std.specs.Prelude.{ℕ, Bool, List, cond, is_some, length, Option, None, Some}
+use Rattle.std.specs.Prelude.{Bool, List, cond, is_some, length, Option, None, Some}
+use Rattle.net_types.specs.declared.faults.FaultKind.{FaultKind}
+use Rattle.net_types.specs.declared.faults.FaultKind.TheVariants.{InvalidKeyword, NotInProfile, OverLimit}
 use Rattle.net_types.specs.declared.faults.LineFault.{LineFault}
 use Rattle.inp_lines.specs.declared.fault.Fault.{Fault}
 use Rattle.inp_lines.specs.declared.line.Line.{Line}
@@ -9,6 +11,7 @@ use Rattle.inp_lines.specs.declared.line.SectionName.TheVariants as section
 use Rattle.inp_lines.specs.Gather.{walk_fault}
 use Rattle.inp_lines.specs.Readings.{is_long}
 use Rattle.inp_lines.specs.Sections.{named_section}
+use Rattle.inp_forms.specs.Values.{fault_of}
 
 -- How lines of a section are taken.
 --     BuiltSection      another reader takes them, or they are the title
@@ -28,8 +31,18 @@ treatment_of section.Title = BuiltSection
 treatment_of section.Options = BuiltSection
 treatment_of section.Junctions = BuiltSection
 treatment_of section.Outfalls = BuiltSection
+treatment_of section.RainGages = BuiltSection
+treatment_of section.Evaporation = BuiltSection
+treatment_of section.Subcatchments = BuiltSection
+treatment_of section.SubAreas = BuiltSection
+treatment_of section.Infiltration = BuiltSection
+treatment_of section.Storage = BuiltSection
 treatment_of section.Conduits = BuiltSection
+treatment_of section.Pumps = BuiltSection
+treatment_of section.Orifices = BuiltSection
+treatment_of section.Weirs = BuiltSection
 treatment_of section.XSections = BuiltSection
+treatment_of section.Losses = BuiltSection
 treatment_of section.Inflows = BuiltSection
 treatment_of section.Report = PassedSection
 treatment_of section.Tags = PassedSection
@@ -46,8 +59,8 @@ treatment_of section.Before = NoSection
 treatment_of _ = LaterSection
 
 -- A fault at the first token.
-abbrev pub at_first : ℕ → Fault
-at_first fault_number = record { number = fault_number; place = 0 }
+abbrev pub at_first : FaultKind → Fault
+at_first kind = fault_of kind 0
 
 -- Whether a line is a section line.
 abbrev pub is_section_line : Line → Bool
@@ -58,13 +71,14 @@ is_section_line line = is_some (named_section line.bytes)
 abbrev pub treated_fault : Treatment → Bool → Option Fault
 treated_fault BuiltSection names_section = None
 treated_fault PassedSection names_section = None
-treated_fault LaterSection names_section = Some (at_first 401)
-treated_fault UnknownSection names_section = cond names_section (Some (at_first 205)) None
-treated_fault NoSection names_section = Some (at_first 205)
+treated_fault LaterSection names_section = Some (at_first NotInProfile)
+treated_fault UnknownSection names_section = cond names_section (Some (at_first InvalidKeyword)) None
+treated_fault NoSection names_section = Some (at_first InvalidKeyword)
 
 -- The fault of a line that no other reader finds: a line that is too long has no other fault, and its token is empty.
 abbrev pub other_fault : Line → Option Fault
-other_fault line = cond (is_long line) (Some (record { number = 402; place = length line.tokens })) (treated_fault (treatment_of line.section) (is_section_line line))
+other_fault line = cond (is_long line) (Some (fault_of OverLimit (length line.tokens)))
+    (treated_fault (treatment_of line.section) (is_section_line line))
 
 -- The same as a list, by the lines before it, which don't matter.
 abbrev pub other_line_fault : List Line → Line → List LineFault

@@ -8,10 +8,13 @@
 //! it, is `specs/Soundness`.
 #![tactic(auto)]
 
+mod known;
 mod laws;
+mod network;
 mod others;
 mod project;
 mod reading;
+mod surface;
 #[cfg(test)]
 mod tests;
 mod title;

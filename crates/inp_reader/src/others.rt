@@ -6,10 +6,11 @@ ghost use Rattle.inp_lines.specs.Gather.{gather};
 ghost use Rattle.inp_lines.specs.Merge.{merged};
 ghost use Rattle.inp_reader.specs.OtherLines.{other_fault, other_line_fault, treated_fault, treatment_of};
 
+use inp_forms::fault;
 use inp_lines::{
     Fault, Line, LineWalk, SectionName, is_too_long, merge_faults, section_of, walk_lines,
 };
-use net_types::{LineFault, List, OutOfMemory};
+use net_types::{FaultKind, LineFault, List, OutOfMemory};
 use std::alloc::Global;
 
 /// The walk over lines that no section reads, which holds nothing.
@@ -31,10 +32,7 @@ fn other_fault(line: &Line) -> Option<Fault>
     ensures { result ≡ other_fault line.now }
 {
     if is_too_long(line) {
-        return Some(Fault {
-            number: 402,
-            place: line.tokens.as_slice().len(),
-        });
+        return Some(fault(FaultKind::OverLimit, line.tokens.as_slice().len()));
     }
     treated_fault(line.section, section_of(line.bytes.as_slice()).is_some())
 }
@@ -48,9 +46,19 @@ fn treated_fault(section: SectionName, names_section: bool) -> Option<Fault>
         | SectionName::Options
         | SectionName::Junctions
         | SectionName::Outfalls
+        | SectionName::Storage
         | SectionName::Conduits
+        | SectionName::Pumps
+        | SectionName::Orifices
+        | SectionName::Weirs
         | SectionName::XSections
+        | SectionName::Losses
         | SectionName::Inflows => None,
+        SectionName::RainGages
+        | SectionName::Evaporation
+        | SectionName::Subcatchments
+        | SectionName::SubAreas
+        | SectionName::Infiltration => None,
         SectionName::Report
         | SectionName::Tags
         | SectionName::Map
@@ -61,23 +69,16 @@ fn treated_fault(section: SectionName, names_section: bool) -> Option<Fault>
         | SectionName::Labels
         | SectionName::Backdrop
         | SectionName::Profiles => None,
-        SectionName::Before => Some(first_token(205)),
+        SectionName::Before => Some(fault(FaultKind::InvalidKeyword, 0)),
         SectionName::Unknown => {
             if names_section {
-                Some(first_token(205))
+                Some(fault(FaultKind::InvalidKeyword, 0))
             } else {
                 None
             }
         }
-        _ => Some(first_token(401)),
+        _ => Some(fault(FaultKind::NotInProfile, 0)),
     }
-}
-
-/// A fault at the first token.
-fn first_token(number: u32) -> Fault
-    ensures { result ≡ record { number = number; place = 0 } }
-{
-    Fault { number, place: 0 }
 }
 
 /// Merges the faults of lines that no section reads.

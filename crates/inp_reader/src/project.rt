@@ -2,17 +2,19 @@
 ghost use Rattle.std.specs.Prelude.{◌≡◌, [], IfOk, OnOk};
 ghost use Rattle.inp_lines.specs.Faults.{cut};
 ghost use Rattle.inp_lines.specs.Order.{Rise};
+ghost use Rattle.net_types.specs.Sound.{IsSound};
 ghost use Rattle.inp_reader.specs.LineFaults.{line_faults};
 ghost use Rattle.inp_reader.specs.Meaning.{Means};
-ghost use Rattle.net_types.specs.Sound.{IsSound};
 
+use crate::known::known_of;
+use crate::network::read_network;
 use crate::others::read_others;
+use crate::surface::read_surface;
 use crate::title::read_title;
-use inp_lines::Line;
-use inp_objects::read_objects;
+use constant_inflows::read_inflows;
+use inp_lines::{Line, merge_faults};
 use inp_options::read_options;
-use inp_tables::{read_sections, read_tables};
-use net_types::{LineFault, List, Options, OutOfMemory, Project, Text};
+use net_types::{LineFault, List, OutOfMemory, Project};
 use std::alloc::Global;
 
 /// Reads all lines into a project, and gives the first hundred of their faults.
@@ -29,36 +31,28 @@ pub(crate) fn read_lines(
 {
     let (options, warnings) = read_options(alloc, lines, faults)?;
     let title = read_title(alloc, lines)?;
-    let mut project = empty_project(alloc, title, warnings, options);
-    read_tables(alloc, lines, &mut project, faults)?;
-    read_objects(alloc, lines, &mut project, faults)?;
-    read_sections(alloc, lines, &mut project, faults)?;
+    let known = known_of(alloc, options.units, lines)?;
+    let network = read_network(alloc, &known, lines)?;
+    merge_faults(alloc, faults, &network.faults)?;
+    let surface = read_surface(alloc, options.infil, &known, lines)?;
+    merge_faults(alloc, faults, &surface.faults)?;
+    let mut inflows = List::new(alloc);
+    let of_inflows = read_inflows(alloc, options.units, &known.nodes, lines, &mut inflows)?;
+    merge_faults(alloc, faults, &of_inflows)?;
     read_others(alloc, lines, faults)?;
-    Ok(project)
-}
-
-/// A project without objects.
-fn empty_project(
-    alloc: Global,
-    title: List<Text>,
-    warnings: List<Text>,
-    options: Options,
-) -> Project
-    ensures { result ≡ record { title = title; warnings = warnings; options = options; gages = []; subs = []; nodes = []; links = []; curves = []; series = []; patterns = []; inflows = []; dry = []; rules = [] } }
-{
-    Project {
+    Ok(Project {
         title,
         warnings,
         options,
-        gages: List::new(alloc),
-        subs: List::new(alloc),
-        nodes: List::new(alloc),
-        links: List::new(alloc),
+        gages: surface.gages,
+        subs: surface.subs,
+        nodes: network.nodes,
+        links: network.links,
         curves: List::new(alloc),
         series: List::new(alloc),
         patterns: List::new(alloc),
-        inflows: List::new(alloc),
+        inflows,
         dry: List::new(alloc),
         rules: List::new(alloc),
-    }
+    })
 }

@@ -2,6 +2,7 @@
 -- faults are this project's profile), and the cross-sections of an input.
 use Rattle.std.specs.Prelude.{ℕ, ℤ, Bool, if◌then◌else◌, List, codes, Option, Some, None}
 use Rattle.net_types.specs.declared.faults.LineFault.{LineFault}
+use Rattle.net_types.specs.declared.network.Link.{Link}
 use Rattle.net_types.specs.declared.network.Shape.{Shape}
 use Rattle.net_types.specs.declared.network.Shape.TheVariants.{RectOpen, RectClosed, Trapezoidal, Triangular, Circular}
 use Rattle.inp_values.specs.Words.{same_word}
@@ -16,6 +17,7 @@ use Rattle.inp_forms.specs.Context.{Context}
 use Rattle.inp_forms.specs.Forms.{RowForm, Forms}
 use Rattle.inp_forms.specs.Getters.{amount_at, choice_at, index_at}
 use Rattle.inp_owners.specs.Owners.{owned_fault, owned_of, owner_of}
+use Rattle.inp_owners.specs.Placing.{with_owned}
 use Rattle.inp_sections.specs.declared.cross_sections.OwnSection.{OwnSection}
 use Rattle.inp_sections.specs.declared.cross_sections.TheConstants.{PLAIN_SECTION, TRAPEZOIDAL_SECTION}
 use Rattle.inp_sections.specs.declared.cross_sections.TheConstants.{CIRCULAR_SECTION}
@@ -78,3 +80,15 @@ sections_of known lines = owned_of known objects.Links section_forms lines
 -- the fault of a line of cross-sections, none or one, by the lines before it
 abbrev pub section_fault : Context → List Line → Line → List LineFault
 section_fault known = owned_fault known objects.Links section_forms
+
+-- ---- links with their cross-sections
+abbrev pub link_of_section : OwnSection → ℕ
+link_of_section own = own.link
+
+-- a link that gains a cross-section
+abbrev pub with_section : OwnSection → Link → Link
+with_section own link = record link { «section» = Some own.«section» }
+
+-- links, each with the cross-section that is its own
+unfoldable pub with_sections : List OwnSection → List Link → List Link
+with_sections sections links = with_owned link_of_section with_section sections links

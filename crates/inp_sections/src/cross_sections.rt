@@ -6,17 +6,17 @@ ghost use Rattle.inp_forms.specs.Context.{context_of};
 ghost use Rattle.inp_forms.specs.Forms.{form_name, form_reading, row_name, row_reading};
 ghost use Rattle.inp_sections.specs.CrossSections.{circular_form, is_shape, own_section, plain_form, plain_shape};
 ghost use Rattle.inp_sections.specs.CrossSections.{section_fault, section_form, section_forms, section_name};
-ghost use Rattle.inp_sections.specs.CrossSections.{sections_of};
-ghost use Rattle.inp_sections.specs.CrossSections.{trapezoidal_form};
+ghost use Rattle.inp_sections.specs.CrossSections.{link_of_section, sections_of, trapezoidal_form};
+ghost use Rattle.inp_sections.specs.CrossSections.{with_section, with_sections};
 
 use inp_forms::{
     Form, Item, Keyword, Known, Objects, Value, What, Words, amount, choice, index, name_row,
     read_row,
 };
 use inp_lines::{Kind, Line, Naming, Reading, RecordKind, SectionName, read_kind};
-use inp_owners::owner_name;
+use inp_owners::{Owned, owner_name, place_owned};
 use inp_values::{Quantity, is_word};
-use net_types::{LineFault, List, OutOfMemory, Section, Shape, Text};
+use net_types::{LineFault, Link, List, OutOfMemory, Section, Shape, Text};
 use std::alloc::Global;
 
 /// The items of a rectangular or triangular cross-section: link, shape, full height, width, two numbers that aren't
@@ -240,4 +240,28 @@ pub fn read_cross_sections<'a>(
     ensures faults { IfOk result (λ faults. faults ≡ cut (gather (section_fault (context_of known.now)) [] lines.now)) }
 {
     read_kind(alloc, &Sections { known }, lines, sections)
+}
+
+impl Owned for OwnSection {
+    type Object = Link;
+
+    ghost number_of = { link_of_section };
+
+    ghost changed = { with_section };
+
+    fn number(&self) -> u32 {
+        self.link
+    }
+
+    fn change(&self, link: &mut Link) {
+        link.section = Some(self.section);
+    }
+}
+
+/// Gives links their cross-sections.
+#[tactic(auto, unfolding(crate::specs::CrossSections::with_sections))]
+pub fn place_sections(links: &mut List<Link>, sections: &List<OwnSection>)
+    ensures { links.new ≡ with_sections sections.now links.old }
+{
+    place_owned(links, sections);
 }

@@ -4,15 +4,16 @@ ghost use Rattle.inp_lines.specs.Faults.{cut};
 ghost use Rattle.inp_lines.specs.Gather.{gather};
 ghost use Rattle.inp_forms.specs.Context.{context_of};
 ghost use Rattle.inp_forms.specs.Forms.{form_name, form_reading};
-ghost use Rattle.inp_sections.specs.Losses.{loss_form, loss_forms, loss_name, losses_fault, losses_of};
+ghost use Rattle.inp_sections.specs.Losses.{kind_with_losses, link_of_losses, loss_form, loss_forms, loss_name};
+ghost use Rattle.inp_sections.specs.Losses.{losses_fault, losses_of, with_losses, with_own_losses};
 
 use inp_forms::{
     Form, Item, Known, Objects, Value, What, amount, index, is_on, name_row, read_row,
 };
 use inp_lines::{Kind, Line, Naming, Reading, RecordKind, SectionName, read_kind};
-use inp_owners::owner_name;
+use inp_owners::{Owned, owner_name, place_owned};
 use inp_values::Quantity;
-use net_types::{LineFault, List, OutOfMemory};
+use net_types::{LineFault, Link, LinkKind, List, OutOfMemory};
 use std::alloc::Global;
 
 /// The items of the losses of a conduit: conduit, coefficients of its entry, its exit and its length, flap gate.
@@ -112,4 +113,57 @@ pub fn read_losses<'a>(
     ensures faults { IfOk result (λ faults. faults ≡ cut (gather (losses_fault (context_of known.now)) [] lines.now)) }
 {
     read_kind(alloc, &Losses { known }, lines, losses)
+}
+
+impl Owned for OwnLosses {
+    type Object = Link;
+
+    ghost number_of = { link_of_losses };
+
+    ghost changed = { with_own_losses };
+
+    fn number(&self) -> u32 {
+        self.link
+    }
+
+    fn change(&self, link: &mut Link) {
+        link.kind = kind_with_losses(self, link.kind);
+    }
+}
+
+/// What a conduit is with its losses and its flap gate; other links have none.
+fn kind_with_losses(own: &OwnLosses, kind: LinkKind) -> LinkKind
+    ensures { result ≡ kind_with_losses own.now kind }
+{
+    match kind {
+        LinkKind::Conduit {
+            length,
+            n6,
+            z1,
+            z2,
+            q0,
+            q_max,
+            ..
+        } => LinkKind::Conduit {
+            length,
+            n6,
+            z1,
+            z2,
+            q0,
+            q_max,
+            entry6: own.entry6,
+            exit6: own.exit6,
+            avg6: own.avg6,
+            flap: own.flap,
+        },
+        _ => kind,
+    }
+}
+
+/// Gives conduits their losses.
+#[tactic(auto, unfolding(crate::specs::Losses::with_losses))]
+pub fn place_losses(links: &mut List<Link>, losses: &List<OwnLosses>)
+    ensures { links.new ≡ with_losses losses.now links.old }
+{
+    place_owned(links, losses);
 }

@@ -1,11 +1,11 @@
--- What good hydraulics give lies in its ranges, and a junction stays below its top: for the crates that add up volumes.
-use Rattle.std.proofs.Common.{◌≡◌, ℕ, ◌^◌, ◌<◌, Bool, length, ℤ, pos, ◌*◌, ◌≤ℤ◌, unsigned_abs}
+-- What good hydraulics give lies in its ranges, and a node that is no outfall stays below its top: for the crates that add up volumes.
+use Rattle.std.proofs.Common.{◌≡◌, ℕ, ◌^◌, ◌<◌, Bool, false, length, ℤ, pos, ◌*◌, ◌≤ℤ◌, unsigned_abs}
 use Rattle.conduit_flow.proofs.GeometryLemmas.{mid_area_of-between}
 use Rattle.fixed_num.specs.Ranges.{IsBetween, IsHead, IsWithin}
 use Rattle.node_update.proofs.GainLemmas.{gain_within, inflow_between, outflow_between}
 use Rattle.node_update.proofs.UpdateLemmas.{next_place, flood_between, flood_most, volume_within}
 use Rattle.node_update.specs.NodeUpdate.{gain_of, flood_of, volume_of as node_volume_of}
-use Rattle.node_update.specs.declared.node_law.HeadRule.TheVariants.{Junction as JunctionRule}
+use Rattle.node_update.specs.NodeLaws.{is_outfall_rule}
 use Rattle.phase_law.specs.Ranges.{HeadInRange, SumsInRange, NodeFixedInRange}
 use Rattle.phase_law.specs.declared.values.NodeFixed.{NodeFixed}
 use Rattle.link_eval.specs.Good.{IsGood}
@@ -33,8 +33,8 @@ pub node_flood-most : (h : Hydraulics) (n : ℕ) (fixed : NodeFixed) {i o a : �
     → flood_of (node_law_at h n) fixed i o a last ≤ℤ pos (unsigned_abs (gain_of fixed i o))
 node_flood-most h n fixed last g inside s k = flood_most fixed last (g.nodes n inside) s k
 
--- a junction whose last head was not above its top stays there
-pub node_place : (h : Hydraulics) (n : ℕ) (fixed : NodeFixed) (first : Bool) (i o a last : ℤ) → IsGood h → n < length h.nodes → (node_law_at h n).rule ≡ JunctionRule → last ≤ℤ (node_law_at h n).top
+-- a node that is no outfall, whose last head was not above its top stays there
+pub node_place : (h : Hydraulics) (n : ℕ) (fixed : NodeFixed) (first : Bool) (i o a last : ℤ) → IsGood h → n < length h.nodes → is_outfall_rule (node_law_at h n).rule ≡ false → last ≤ℤ (node_law_at h n).top
     → ((law_of h).next n fixed first i o a last).head ≤ℤ (node_law_at h n).top
 unfolding law_of
 node_place h n fixed first i o a last g inside e k = next_place fixed first i o a last (g.nodes n inside) e k

@@ -1,11 +1,10 @@
--- The projects whose hydraulics are built: conduits between nodes whose laws are built (User's Manual, appendix D).
+-- The projects whose hydraulics are built: those of conduits, with nodes of every kind (User's Manual, appendix D).
 use Rattle.std.specs.Bool.{⊤}
 use Rattle.std.specs.List.{All}
 use Rattle.net_types.specs.declared.network.Link.{Link}
 use Rattle.net_types.specs.declared.network.LinkKind.{LinkKind}
 use Rattle.net_types.specs.declared.network.LinkKind.TheVariants.{Conduit, Pump, Orifice, Weir}
 use Rattle.net_types.specs.declared.project.Project.{Project}
-use Rattle.node_update.specs.Network.{HasNodeLaws}
 
 abbrev pub IsConduitKind : LinkKind → Type 0
 IsConduitKind (Conduit long n6 z1 z2 q0 q_max entry6 exit6 avg6 flap) = ⊤
@@ -17,5 +16,4 @@ abbrev pub IsBuiltLink : Link → Type 0
 IsBuiltLink link = IsConduitKind link.kind
 
 pub record HasHydraulics (project : Project) : Type 0 where
-  pub nodes : HasNodeLaws project
   pub links : All IsBuiltLink project.links

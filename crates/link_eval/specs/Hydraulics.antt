@@ -1,4 +1,4 @@
--- What a network of junctions, outfalls and conduits computes: the laws of its nodes and links, and the law of the
+-- What a network of nodes and conduits computes: the laws of its nodes and links, and the law of the
 -- whole (Reference Manual volume II, chapter 3).
 use Rattle.std.specs.Prelude.{ℕ, ◌*◌, ◌^◌, Bool, false, List, [], length, map, slice_index_or, Option, Some, None, ℤ}
 use Rattle.std.specs.Prelude.{pos, ◌+ℤ◌, ◌||◌}
@@ -20,7 +20,8 @@ use Rattle.net_types.specs.declared.project.Project.{Project}
 use Rattle.node_update.specs.NodeLaws.{node_law_of}
 use Rattle.net_types.specs.Records.{node_at}
 use Rattle.node_update.specs.NodeUpdate.{next_of}
-use Rattle.node_update.specs.declared.node_law.HeadRule.TheVariants.{FixedOutfall}
+use Rattle.node_update.specs.declared.node_law.NodeRule.TheVariants.{Outfall as OutfallRule}
+use Rattle.node_update.specs.declared.node_law.OutfallLevel.TheVariants.{AtInvert}
 use Rattle.node_update.specs.declared.node_law.NodeLaw.{NodeLaw}
 use Rattle.phase_law.specs.Law.{Law}
 use Rattle.xsect_tables.specs.SectionTable.{SectionTable, table_of}
@@ -102,7 +103,7 @@ hydraulics_of project = record {
 -- a node's and a link's law, for numbers past the end of a list
 abbrev pub no_node_law : NodeLaw
 no_node_law = record {
-  rule = FixedOutfall;
+  rule = OutfallRule AtInvert;
   invert = pos 0;
   full = pos 0;
   top = pos 0;

@@ -5,6 +5,7 @@ ghost use Rattle.project_check.specs.Faultless.{IsFaultless};
 ghost use Rattle.link_eval.specs.Built.{HasHydraulics};
 ghost use Rattle.link_eval.specs.Good.{IsGood, IsGoodLink};
 ghost use Rattle.node_update.specs.NodeLaws.{IsNodeLaw};
+ghost use Rattle.node_update.specs.RuleProps.{node_rule_props};
 ghost use Rattle.link_eval.specs.Hydraulics.{hydraulics_of, node_law_at, link_law_at, volume_at, mid_area_at};
 
 use crate::build::link_laws;
@@ -19,7 +20,7 @@ use std::alloc::Global;
 #[derive(Debug, Drop)]
 pub struct HydraulicLaw {
     pub hydraulics: Hydraulics,
-    pub ghost good: { IsGood hydraulics },
+    pub ghost good: { IsGood hydraulics } by { Prim.hlevel node_rule_props },
 }
 
 impl HydraulicLaw {

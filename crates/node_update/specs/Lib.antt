@@ -1,3 +1,4 @@
-pub mod Network
+pub mod OutfallConduits
 pub mod NodeLaws
 pub mod NodeUpdate
+pub mod RuleProps

@@ -1,5 +1,5 @@
 -- The opening state: its parts, its ranges and its sums.
-use Rattle.std.proofs.Common.{◌≡◌, ◌∙◌, ℕ, ◌*◌, ◌^◌, ◌<◌, ◌≤◌, ℤ, pos, List}
+use Rattle.std.proofs.Common.{◌≡◌, ◌∙◌, ℕ, ◌*◌, ◌^◌, ◌<◌, ◌≤◌, true, ℤ, pos, List}
 use Rattle.std.proofs.Common.{length, replicate, refl, sym, subst, ap, arith}
 use Rattle.std.proofs.lemmas.Int.{ints}
 use Rattle.std.proofs.lemmas.List.{get_or-replicate, length-replicate}
@@ -34,12 +34,13 @@ use Rattle.trial_model.specs.Start.{no_link, no_node, resting}
 use Rattle.trial_model.specs.Trial.{inflow_of, outflow_of, SumsOf}
 use Rattle.trial_model.proofs.FlowLemmas.{flow_sums_most, listed_inflows, listed_outflows, listed_sums}
 use Rattle.trial_model.proofs.RangeLemmas.{listed}
-use Rattle.link_eval.specs.LawGood.{head_of_law as head_in}
+use Rattle.link_eval.specs.LawGood.{head_in as within_head, head_of_law as head_in}
 use Rattle.run_engine.specs.Amounts.{laterals_at}
 use Rattle.run_engine.specs.Ready.{IsReady}
 use Rattle.run_engine.specs.States.{kind_flow, kind_head, opening, opening_flow}
-use Rattle.run_engine.specs.States.{opening_head, opening_node, project_law}
-use Rattle.run_engine.proofs.LawLemmas.{law_links, law_nodes, project_law_good}
+use Rattle.run_engine.specs.States.{opening_head, opening_inflow, opening_level, opening_node, opening_outflow}
+use Rattle.run_engine.specs.States.{project_law}
+use Rattle.run_engine.proofs.LawLemmas.{law_links, law_nodes, project_good, project_law_good}
 use Rattle.run_engine.proofs.RunLemmas.{run_node}
 
 -- ---- ranges of a node's parts
@@ -59,10 +60,10 @@ stage_within project moment (Outfall stage gated) h = level_within project momen
 stage_within project moment (Junction surcharge pond) h = within_up (within_number 0) tt
 stage_within project moment (Storage shape) h = within_up (within_number 0) tt
 
-open_within : (kind : NodeKind) {invert y0 stage : ℤ} → IsElevation invert → IsDepth y0 → IsElevation stage → IsHead (kind_head kind invert y0 stage)
-open_within (Outfall kind gated) i y s = within_up (within_max i s) tt
-open_within (Junction surcharge pond) i y s = within_up (within_add i (within_between y)) tt
-open_within (Storage shape) i y s = within_up (within_add i (within_between y)) tt
+open_within : (kind : NodeKind) {invert y0 level : ℤ} → IsElevation invert → IsDepth y0 → IsHead level → IsHead (kind_head kind invert y0 level)
+open_within (Outfall stage gated) i y l = l
+open_within (Junction surcharge pond) i y l = within_up (within_add i (within_between y)) tt
+open_within (Storage shape) i y l = within_up (within_add i (within_between y)) tt
 
 kind_flow_in : (kind : LinkKind) → LinkKindInRange kind → IsFlow (kind_flow kind)
 kind_flow_in (Conduit long n6 z1 z2 q0 q_max entry6 exit6 avg6 flap) h = h.q0_in
@@ -88,16 +89,8 @@ laterals_count project moment is =
 
 -- ---- of nodes and links by their numbers
 module _ {project : Project} (r : IsReady project) where
-  level_in : (moment : ℤ) (n : ℕ) → n < length project.nodes → IsElevation (stage_at project n moment)
-  level_in moment n inside = stage_within project moment (node_of project.nodes n).kind (run_node project r n inside).kind_in
-
   pub stage_in : (moment : ℤ) (n : ℕ) → n < length project.nodes → IsHead (stage_at project n moment)
-  stage_in moment n inside = within_up (level_in moment n inside) tt
-
-  opened_within : (n : ℕ) → n < length project.nodes → IsHead (opening_head project n)
-  opened_within n inside =
-      let node = run_node project r n inside in
-      open_within (node_of project.nodes n).kind node.invert_in node.y0_in (level_in (pos 0) n inside)
+  stage_in moment n inside = within_up (stage_within project moment (node_of project.nodes n).kind (run_node project r n inside).kind_in) tt
 
   opened_flow : (l : ℕ) → l < length project.links → IsFlow (opening_flow project.links l)
   opened_flow l inside =
@@ -140,6 +133,38 @@ amounts_in inflow outflow e1 e2 e3 h1 h2 = record {
   area_in = record { from = omega (arith, ints); to = omega (arith, ints) };
 }
 
+-- ---- what a node begins with
+module _ {project : Project} (good : IsGood (hydraulics_of project)) (r : IsReady project) where
+  pub opened_node_in : (n : ℕ) → n < length project.nodes → NodeFixedInRange (project_law project) (opening_node project n)
+  opened_node_in n inside = record {
+    head = head_in (hydraulics_of project) zero_within;
+    net = within_up (within_number 0) tt;
+    lateral = lateral_in project n (pos 0);
+    stage = head_in (hydraulics_of project) (stage_in r (pos 0) n inside);
+    length = no_length;
+  }
+
+  pub opened_sums_in : (n : ℕ) → SumsInRange (opening_inflow project n) (opening_outflow project n) (pos 0)
+  opened_sums_in n =
+      let law = project_law project in
+      let flow = opening_flow project.links in
+      let most = flow_sums_most (project_law_good project good) flow (law_flow r) n in
+      amounts_in (inflow_of law flow n) (outflow_of law flow n) refl refl refl most.0 most.1
+
+  pub opened_zero_in : HeadInRange (project_law project) (pos 0)
+  opened_zero_in = head_in (hydraulics_of project) zero_within
+
+  opened_level : (n : ℕ) → n < length project.nodes → HeadInRange (project_law project) (opening_level project n)
+  unfolding opening_level
+  opened_level n inside =
+      (project_law_good project good).next_in n (opening_node project n) true (opening_inflow project n) (opening_outflow project n) (pos 0) (pos 0)
+      (omega (arith, inside, law_nodes project)) (opened_node_in n inside) (opened_sums_in n) opened_zero_in
+
+  opened_within : (n : ℕ) → n < length project.nodes → IsHead (opening_head project n)
+  opened_within n inside =
+      let node = run_node project r n inside in
+      open_within (node_of project.nodes n).kind node.invert_in node.y0_in (within_head (hydraulics_of project) (opened_level n inside))
+
 -- ---- the opening state
 -- it fits the law
 pub opening_fits : (project : Project) → IsGood (hydraulics_of project) → IsReady project → Fits (project_law project) (opening project)
@@ -154,21 +179,21 @@ opening_fits project good r =
         count = length-map-range_with_len head 0 law.nodes;
         each = λ n inside.
             subst (λ (z : ℤ). HeadInRange law z) (sym (listed head law.nodes n (pos 0) inside))
-            (head_in h (opened_within r n (omega (arith, law_nodes project))));
+            (head_in h (opened_within good r n (omega (arith, law_nodes project))));
       };
       flows = record {
         count = length-map-range_with_len flow 0 law.links;
         each = λ l inside. subst (λ (q : ℤ). IsFlow q) (sym (listed flow law.links l (pos 0) inside)) (law_flow r l inside);
       };
       sums = record {
-        inflow_count = length-map-range_with_len (λ n. pos (inflow_of law flow n)) 0 law.nodes;
-        outflow_count = length-map-range_with_len (λ n. pos (outflow_of law flow n)) 0 law.nodes;
+        inflow_count = length-map-range_with_len (opening_inflow project) 0 law.nodes;
+        outflow_count = length-map-range_with_len (opening_outflow project) 0 law.nodes;
         area_count = length-replicate law.nodes (pos 0);
         each = λ n inside.
             let most = flow_sums_most (project_law_good project good) flow (law_flow r) n in
             amounts_in (inflow_of law flow n) (outflow_of law flow n)
-            (listed (λ n. pos (inflow_of law flow n)) law.nodes n (pos 0) inside)
-            (listed (λ n. pos (outflow_of law flow n)) law.nodes n (pos 0) inside)
+            (listed (opening_inflow project) law.nodes n (pos 0) inside)
+            (listed (opening_outflow project) law.nodes n (pos 0) inside)
             (get_or-replicate law.nodes n (pos 0) (pos 0) inside)
             most.0
             most.1;
@@ -185,13 +210,7 @@ opening_fits project good r =
         count = length-map-range_with_len (opening_node project) 0 law.nodes;
         each = λ n inside.
             subst (λ (x : NodeFixed). NodeFixedInRange law x) (sym (listed (opening_node project) law.nodes n no_node inside))
-            (record {
-              head = head_in h zero_within;
-              net = within_up (within_number 0) tt;
-              lateral = lateral_in project n (pos 0);
-              stage = head_in h (stage_in r (pos 0) n (omega (arith, law_nodes project)));
-              length = no_length;
-            });
+            (opened_node_in good r n (omega (arith, inside, law_nodes project)));
       };
       least = record { from = omega (arith, ints); to = omega (arith, ints) };
     }
@@ -217,6 +236,51 @@ pub nodes_at : {h : Hydraulics} {xs : List ℤ} (project : Project) → h ≡ hy
 nodes_at project e f =
     ap (λ (l : List ℤ). length l) f ∙ length-replicate (length project.nodes) (pos 0) ∙ sym (law_nodes project) ∙ ap (λ (x : Hydraulics). (law_of x).nodes) (sym e)
 
+-- the inflows and outflows of the flows of the beginning, in the law of equal hydraulics
+pub opened_inflows : (project : Project) {h : Hydraulics} {flows : List ℤ} → h ≡ hydraulics_of project → flows ≡ list_of (opening_flow project.links) (length project.links)
+    → list_of (λ n. pos (inflow_of (law_of h) (number flows) n)) (law_of h).nodes ≡ list_of (opening_inflow project) (length project.nodes)
+opened_inflows project {h} {flows} same e =
+    let law = project_law project in
+    let flow = opening_flow project.links in
+    let flows_are : flows ≡ list_of flow law.links = e ∙ ap (list_of flow) (sym (law_links project)) in
+    ap (λ (l : Law). list_of (λ n. pos (inflow_of l (number flows) n)) l.nodes) (ap law_of same)
+    ∙ ap (λ (xs : List ℤ). list_of (λ n. pos (inflow_of law (number xs) n)) law.nodes) flows_are
+    ∙ listed_inflows law flow ∙ ap (list_of (opening_inflow project)) (law_nodes project)
+
+pub opened_outflows : (project : Project) {h : Hydraulics} {flows : List ℤ} → h ≡ hydraulics_of project → flows ≡ list_of (opening_flow project.links) (length project.links)
+    → list_of (λ n. pos (outflow_of (law_of h) (number flows) n)) (law_of h).nodes ≡ list_of (opening_outflow project) (length project.nodes)
+opened_outflows project {h} {flows} same e =
+    let law = project_law project in
+    let flow = opening_flow project.links in
+    let flows_are : flows ≡ list_of flow law.links = e ∙ ap (list_of flow) (sym (law_links project)) in
+    ap (λ (l : Law). list_of (λ n. pos (outflow_of l (number flows) n)) l.nodes) (ap law_of same)
+    ∙ ap (λ (xs : List ℤ). list_of (λ n. pos (outflow_of law (number xs) n)) law.nodes) flows_are
+    ∙ listed_outflows law flow ∙ ap (list_of (opening_outflow project)) (law_nodes project)
+
+-- what a node begins with, from the lists of it, in the law of equal hydraulics
+module _ (project : Project) (h : Hydraulics) (same : h ≡ hydraulics_of project) (good : IsGood h) (r : IsReady project) (n : ℕ) (inside : n < length project.nodes) where
+  project_is_good : IsGood (hydraulics_of project)
+  project_is_good = project_good h good project same
+
+  pub opened_place : n < (law_of h).nodes
+  opened_place = subst (λ (x : Hydraulics). n < (law_of x).nodes) (sym same) (omega (arith, inside, law_nodes project))
+
+  pub opened_fixed : {fixed : NodeFixed} → fixed ≡ opening_node project n → NodeFixedInRange (law_of h) fixed
+  opened_fixed {fixed} e =
+      subst (λ (x : Hydraulics). NodeFixedInRange (law_of x) fixed) (sym same)
+      (subst (λ (f : NodeFixed). NodeFixedInRange (project_law project) f) (sym e) (opened_node_in project_is_good r n inside))
+
+  pub opened_sums : {i o : ℤ} → i ≡ opening_inflow project n → o ≡ opening_outflow project n → SumsInRange i o (pos 0)
+  opened_sums e f = rw (e, f) (opened_sums_in project_is_good r n)
+
+  pub opened_last : HeadInRange (law_of h) (pos 0)
+  opened_last = head_in h zero_within
+
+  pub opened_level_is : {fixed : NodeFixed} {i o : ℤ} → fixed ≡ opening_node project n → i ≡ opening_inflow project n → o ≡ opening_outflow project n
+      → ((law_of h).next n fixed true i o (pos 0) (pos 0)).head ≡ opening_level project n
+  unfolding opening_level
+  opened_level_is e f g = rw (same, e, f, g) refl
+
 -- a state in which nothing has happened, with the heads, flows, nodes and sums of the beginning
 pub opening_is : (project : Project) (s : Nets) {h : Hydraulics} {heads flows : List ℤ} {nodes : List NodeFixed}
     → h ≡ hydraulics_of project → s ≡ resting (length project.nodes) (length project.links)
@@ -236,20 +300,33 @@ unfolding opening
 opening_is project s {h} {heads} {flows} {nodes} same rests e1 e2 e3 =
     let law = project_law project in
     let flow = opening_flow project.links in
-    let law_is : law_of h ≡ law = ap law_of same in
     let count = sym (law_nodes project) in
     let flows_are : flows ≡ list_of flow law.links = e2 ∙ ap (list_of flow) (sym (law_links project)) in
     same_nets
     (e1 ∙ ap (list_of (opening_head project)) count)
     flows_are
-    (ap (λ (l : Law). list_of (λ n. pos (inflow_of l (number flows) n)) l.nodes) law_is
-    ∙ ap (λ (xs : List ℤ). list_of (λ n. pos (inflow_of law (number xs) n)) law.nodes) flows_are
-    ∙ listed_inflows law flow)
-    (ap (λ (l : Law). list_of (λ n. pos (outflow_of l (number flows) n)) l.nodes) law_is
-    ∙ ap (λ (xs : List ℤ). list_of (λ n. pos (outflow_of law (number xs) n)) law.nodes) flows_are
-    ∙ listed_outflows law flow)
+    (opened_inflows project same e2 ∙ ap (list_of (opening_inflow project)) count)
+    (opened_outflows project same e2 ∙ ap (list_of (opening_outflow project)) count)
     (ap (λ (t : Nets). t.areas) rests ∙ ap (λ (n : ℕ). replicate n (pos 0)) count)
     (ap (λ (t : Nets). t.read_heads) rests ∙ ap (λ (n : ℕ). replicate n (pos 0)) count)
     (ap (λ (t : Nets). t.links) rests ∙ ap (λ (n : ℕ). replicate n no_link) (sym (law_links project)))
     (e3 ∙ ap (list_of (opening_node project)) count)
     (ap (λ (t : Nets). t.least) rests)
+
+-- the same, where the heads come last
+pub opened_with : (project : Project) (s t : Nets) {h : Hydraulics} {heads flows : List ℤ} {nodes : List NodeFixed}
+    → h ≡ hydraulics_of project → s ≡ resting (length project.nodes) (length project.links)
+    → heads ≡ list_of (opening_head project) (length project.nodes)
+    → flows ≡ list_of (opening_flow project.links) (length project.links)
+    → nodes ≡ list_of (opening_node project) (length project.nodes)
+    → t ≡ record s {
+      flows = flows;
+      nodes = nodes;
+      inflows = list_of (λ n. pos (inflow_of (law_of h) (number flows) n)) (law_of h).nodes;
+      outflows = list_of (λ n. pos (outflow_of (law_of h) (number flows) n)) (law_of h).nodes;
+    }
+    → ◌≡◌ {A = Nets} (record t { heads = heads }) (opening project)
+opened_with project s t {h} {heads} same rests e1 e2 e3 e = ap (λ (x : Nets). record x { heads = heads }) e ∙ opening_is project s same rests e1 e2 e3
+
+pub heads_length : (project : Project) {s : Nets} → s ≡ resting (length project.nodes) (length project.links) → length s.heads ≡ length project.nodes
+heads_length project e = ap (λ (t : Nets). length t.heads) e ∙ length-replicate (length project.nodes) (pos 0)

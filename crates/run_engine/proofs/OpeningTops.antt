@@ -1,51 +1,57 @@
--- No junction begins above its top.
-use Rattle.std.proofs.Common.{◌≡◌, ◌∙◌, ℕ, ◌<◌, ℤ, pos, ◌+ℤ◌, ◌≤ℤ◌, length, sym, subst, ap, arith}
+-- No node but an outfall begins above its top.
+use Rattle.std.proofs.Common.{◌≡◌, ◌∙◌, ℕ, ◌<◌, Bool, true, false, if◌then◌else◌, int_lt, ℤ, pos, ◌+ℤ◌, ◌≤ℤ◌, length, sym, subst, ap, arith}
 use Rattle.std.proofs.lemmas.Int.{ints}
 use Rattle.continuity.specs.StepOf.{IsBelowTops}
 use Rattle.link_eval.specs.Hydraulics.{hydraulics_of, node_law_at}
 use Rattle.net_types.specs.declared.network.NodeKind.{NodeKind}
 use Rattle.net_types.specs.declared.network.NodeKind.TheVariants.{Junction, Outfall, Storage}
-use Rattle.net_types.specs.declared.options.Options.{Options}
 use Rattle.net_types.specs.declared.project.Project.{Project}
 use Rattle.net_types.specs.Ranges.{NodeKindInRange}
+use Rattle.std.specs.Prelude.{Option}
 use Rattle.net_types.specs.Records.{node_at as node_of}
-use Rattle.node_update.specs.NodeLaws.{kind_law, node_law_of}
-use Rattle.node_update.specs.declared.node_law.HeadRule.TheVariants.{Junction as JunctionRule}
+use Rattle.node_update.specs.NodeLaws.{is_outfall_rule, junction_room, node_law_of, ponded_area_of, room_of, rule_of}
+use Rattle.node_update.specs.OutfallConduits.{conduit_to}
+use Rattle.node_update.specs.declared.node_law.OutfallConduit.{OutfallConduit}
 use Rattle.node_update.specs.declared.node_law.NodeLaw.{NodeLaw}
 use Rattle.project_check.specs.FullHeight.{full_height_of}
 use Rattle.project_check.proofs.LawLemmas.{faultless_good}
-use Rattle.time_series.specs.Stages.{stage_at}
 use Rattle.trial_model.proofs.RangeLemmas.{listed}
 use Rattle.run_engine.specs.Ready.{IsReady}
-use Rattle.run_engine.specs.States.{kind_head, opening, opening_head, project_law}
+use Rattle.run_engine.specs.States.{kind_head, opening, opening_head, opening_level, project_law}
 use Rattle.run_engine.proofs.LawLemmas.{law_nodes, node_law_is}
 use Rattle.run_engine.proofs.RunLemmas.{run_node}
 
-junction_below : (invert y0 full surcharge : ℤ) → pos 0 ≤ℤ surcharge → y0 ≤ℤ full → (invert +ℤ y0) ≤ℤ (invert +ℤ full +ℤ surcharge)
-junction_below invert y0 full surcharge least room = omega (arith, ints, least, room)
+some_room : (b : Bool) (surcharge : ℤ) → pos 0 ≤ℤ surcharge → pos 0 ≤ℤ (if b then pos 1_000_000_000 else surcharge)
+some_room true surcharge h = omega (arith, ints)
+some_room false surcharge h = h
 
-kind_below : (kind : NodeKind) (invert y0 stage full : ℤ) (options : Options) → NodeKindInRange kind → y0 ≤ℤ full → (kind_law kind invert full options).rule ≡ JunctionRule
-    → kind_head kind invert y0 stage ≤ℤ (kind_law kind invert full options).top
-kind_below (Junction surcharge pond) invert y0 stage full options is room rule = junction_below invert y0 full surcharge is.surcharge_in.from room
-kind_below (Outfall kind gated) invert y0 stage full options is room rule = cc
-kind_below (Storage shape) invert y0 stage full options is room rule = cc
+room_below : (invert y0 full room : ℤ) → pos 0 ≤ℤ room → y0 ≤ℤ full → (invert +ℤ y0) ≤ℤ (invert +ℤ full +ℤ room)
+room_below invert y0 full room least below = omega (arith, ints, least, below)
 
-begins_below : (project : Project) → IsReady project → (n : ℕ) → n < length project.nodes → (node_law_of project n).rule ≡ JunctionRule
+kind_below : (project : Project) (kind : NodeKind) (invert y0 level full y_max : ℤ) (conduit : Option OutfallConduit) → NodeKindInRange kind → y0 ≤ℤ full
+    → is_outfall_rule (rule_of project kind y_max conduit) ≡ false → kind_head kind invert y0 level ≤ℤ (invert +ℤ full +ℤ room_of kind project.options)
+kind_below project (Junction surcharge pond) invert y0 level full y_max conduit is below e =
+    room_below invert y0 full (junction_room surcharge (ponded_area_of project.options pond)) (some_room (int_lt (pos 0) (ponded_area_of project.options pond)) surcharge is.surcharge_in.from) below
+kind_below project (Outfall stage gated) invert y0 level full y_max conduit is below e = let never : ⊥ = cc in absurd never
+kind_below project (Storage shape) invert y0 level full y_max conduit is below e = room_below invert y0 full (pos 0) (omega (arith, ints)) below
+
+begins_below : (project : Project) → IsReady project → (n : ℕ) → n < length project.nodes → is_outfall_rule (node_law_of project n).rule ≡ false
     → opening_head project n ≤ℤ (node_law_of project n).top
 unfolding node_law_of
 begins_below project r n inside rule =
     let node = node_of project.nodes n in
-    kind_below node.kind node.invert node.y0 (stage_at project n (pos 0)) (full_height_of project n) project.options (run_node project r n inside).kind_in ((faultless_good project r.faultless).nodes n inside).depth rule
+    kind_below project node.kind node.invert node.y0 (opening_level project n) (full_height_of project n) node.y_max (conduit_to project n)
+    (run_node project r n inside).kind_in ((faultless_good project r.faultless).nodes n inside).depth rule
 
 pub opening_tops : (project : Project) → IsReady project → IsBelowTops (hydraulics_of project) (opening project)
 unfolding opening
 opening_tops project r = record {
-  each = λ n inside junction.
+  each = λ n inside other.
       let h = hydraulics_of project in
       let head : ℕ → ℤ = opening_head project in
       let within : n < length project.nodes = omega (arith, inside, law_nodes project) in
       let law_is = node_law_is project n within in
-      let rule : (node_law_of project n).rule ≡ JunctionRule = ap (λ (l : NodeLaw). l.rule) (sym law_is) ∙ junction in
+      let rule : is_outfall_rule (node_law_of project n).rule ≡ false = ap (λ (l : NodeLaw). is_outfall_rule l.rule) (sym law_is) ∙ other in
       subst (λ (z : ℤ). z ≤ℤ (node_law_at h n).top) (sym (listed head (project_law project).nodes n (pos 0) inside))
       (subst (λ (l : NodeLaw). head n ≤ℤ l.top) (sym law_is) (begins_below project r n within rule));
 }

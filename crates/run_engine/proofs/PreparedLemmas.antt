@@ -87,7 +87,7 @@ prepared_is project finish dt s {h} {links} {nodes} same e1 e2 =
 
 -- in range
 module _ {project : Project} (good : IsGood (hydraulics_of project)) (r : IsReady project) {s : Nets} (fits : Fits (project_law project) s)
-    {finish dt : ℤ} (length_in : IsStepLength dt) where
+    (finish : ℤ) {dt : ℤ} (length_in : IsStepLength dt) where
   link_ready : (l : ℕ) → l < (project_law project).links → LinkFixedInRange (prepared_link project s dt l)
   link_ready l inside =
       let ends = (project_law_good project good).ends_in l inside in

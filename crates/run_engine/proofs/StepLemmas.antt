@@ -1,5 +1,5 @@
 -- A step from one state to the next.
-use Rattle.std.proofs.Common.{◌≡◌, ◌∙◌, ℕ, zero, suc, ◌<◌, Bool, eqb, ℤ, pos}
+use Rattle.std.proofs.Common.{◌≡◌, ◌∙◌, ℕ, zero, suc, ◌<◌, Bool, false, eqb, ℤ, pos}
 use Rattle.std.proofs.Common.{◌+ℤ◌, ◌-ℤ◌, ◌≤ℤ◌, refl, sym, ap, subst, arith}
 use Rattle.std.proofs.lemmas.List.FromFn.{get_or-map-range_with_len}
 use Rattle.continuity.specs.StepOf.{IsBelowTops, IsFixedOf, IsStepOf}
@@ -9,7 +9,7 @@ use Rattle.link_eval.specs.declared.hydraulics.Hydraulics.{Hydraulics}
 use Rattle.net_types.specs.declared.project.Project.{Project}
 use Rattle.node_update.proofs.UpdateLemmas.{next_place}
 use Rattle.node_update.specs.NodeUpdate.{net_of}
-use Rattle.node_update.specs.declared.node_law.HeadRule.TheVariants.{Junction as JunctionRule}
+use Rattle.node_update.specs.NodeLaws.{is_outfall_rule}
 use Rattle.phase_law.specs.Law.{Law}
 use Rattle.phase_law.specs.declared.values.NodeFixed.{NodeFixed}
 use Rattle.trial_model.specs.Fits.{Fits, node_fixed_at}
@@ -66,8 +66,8 @@ step_is project finish dt s =
           subst (IsFixedOf s dt n) (sym here) (record { head = refl; net = net_is (node_fixed_at s.nodes n) (number s.inflows n) (number s.outflows n); length = refl });
     }
 
--- ---- no junction goes above its top
-next_top : (h : Hydraulics) → IsGood h → (n : ℕ) → n < (law_of h).nodes → (node_law_at h n).rule ≡ JunctionRule → (fixed : NodeFixed) (first : Bool) (inflow outflow area last : ℤ)
+-- ---- no node but an outfall goes above its top
+next_top : (h : Hydraulics) → IsGood h → (n : ℕ) → n < (law_of h).nodes → is_outfall_rule (node_law_at h n).rule ≡ false → (fixed : NodeFixed) (first : Bool) (inflow outflow area last : ℤ)
     → last ≤ℤ (node_law_at h n).top → ((law_of h).next n fixed first inflow outflow area last).head ≤ℤ (node_law_at h n).top
 unfolding law_of
 next_top h good n inside junction fixed first inflow outflow area last below = next_place fixed first inflow outflow area last (good.nodes n inside) junction below

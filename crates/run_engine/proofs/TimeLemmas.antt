@@ -1,6 +1,6 @@
 -- The steps of a run in time: their lengths and moments.
 use Rattle.std.proofs.Common.{◌≡◌, ℕ, ◌+◌, ◌*◌, ◌/◌, ◌%◌, ◌≤◌, ℤ, pos, ◌+ℤ◌, ◌-ℤ◌, ◌*ℤ◌, ◌≤ℤ◌, ◌<ℤ◌}
-use Rattle.std.proofs.Common.{Bool, true, false, if◌then◌else◌, unsigned_abs, subst, sym, arith, FitsSigned, w64}
+use Rattle.std.proofs.Common.{Bool, true, false, if◌then◌else◌, unsigned_abs, refl, subst, sym, arith, FitsSigned, w64}
 use Rattle.std.specs.Int.{int_min, int_max}
 use Rattle.std.specs.Ordering.{int_eq}
 use Rattle.std.proofs.lemmas.Int.{ints, clamps}
@@ -9,7 +9,7 @@ use Rattle.fixed_num.specs.Ranges.{cut_of, IsBetween, IsEven, IsWithin, IsStepLe
 use Rattle.fixed_num.proofs.Bounds.{within_mul, within_between, fits64}
 use Rattle.net_types.specs.declared.options.Options.{Options}
 use Rattle.run_engine.specs.Times.{AreRunOptions, IsRunStep, IsRunTime, duration_of}
-use Rattle.run_engine.specs.Times.{length_of, shortest_of, wanted_of}
+use Rattle.run_engine.specs.Times.{length_of, shortest_of, travel_part_of, wanted_of}
 
 -- ---- numbers that are even
 even_min : (a b : ℤ) → IsEven a → IsEven b → IsEven (int_min a b)
@@ -48,32 +48,41 @@ module _ {options : Options} (o : AreRunOptions options) where
   unfolding shortest_of
   shortest_in =
       let share = (unsigned_abs (duration_of options) + 99_999_999) / 100_000_000 in
-      min_between (int_max (pos 500) (pos (2 * share))) options.step_ms (at_least (pos 500) (pos (2 * share)) (not_below 500)) (from_zero o.step)
+      min_between (int_max (pos (2 * share)) (pos 500)) options.step_ms (at_least (pos (2 * share)) (pos 500) (not_below (2 * share))) (from_zero o.step)
 
   pub shortest_even : IsEven (shortest_of options)
   unfolding shortest_of
   shortest_even =
       let share = (unsigned_abs (duration_of options) + 99_999_999) / 100_000_000 in
-      even_min (int_max (pos 500) (pos (2 * share))) options.step_ms (even_max (pos 500) (pos (2 * share)) (even_twice 250) (even_twice share)) o.step_even
+      even_min (int_max (pos (2 * share)) (pos 500)) options.step_ms (even_max (pos (2 * share)) (pos 500) (even_twice share) (even_twice 250)) o.step_even
 
-  wanted_at : (b : Bool) (n : ℕ)
-      → IsBetween (pos 0) (if b then options.step_ms else cut_of (pos (2 * n)) (shortest_of options) options.step_ms) options.step_ms
-  unfolding cut_of
-  wanted_at true n = record { from = from_zero o.step; to = omega (arith, ints) }
-  wanted_at false n = min_between (int_max (pos (2 * n)) (shortest_of options)) options.step_ms (at_least (pos (2 * n)) (shortest_of options) (not_below (2 * n))) (from_zero o.step)
+  pub travel_part_in : (least : ℤ) → IsBetween (pos 0) (travel_part_of options least) options.step_ms
+  unfolding travel_part_of cut_of
+  travel_part_in least =
+      let n = unsigned_abs (options.variable6 *ℤ least) / 2_000_000 in
+      min_between (int_max (pos (2 * n)) (shortest_of options)) options.step_ms (at_least (pos (2 * n)) (shortest_of options) (not_below (2 * n))) (from_zero o.step)
 
-  even_at : (b : Bool) (n : ℕ) → IsEven (if b then options.step_ms else cut_of (pos (2 * n)) (shortest_of options) options.step_ms)
-  unfolding cut_of
-  even_at true n = o.step_even
-  even_at false n = even_min (int_max (pos (2 * n)) (shortest_of options)) options.step_ms (even_max (pos (2 * n)) (shortest_of options) (even_twice n) shortest_even) o.step_even
+  pub travel_part_even : (least : ℤ) → IsEven (travel_part_of options least)
+  unfolding travel_part_of cut_of
+  travel_part_even least =
+      let n = unsigned_abs (options.variable6 *ℤ least) / 2_000_000 in
+      even_min (int_max (pos (2 * n)) (shortest_of options)) options.step_ms (even_max (pos (2 * n)) (shortest_of options) (even_twice n) shortest_even) o.step_even
+
+  wanted_at : (b : Bool) (least : ℤ) → IsBetween (pos 0) (if b then options.step_ms else travel_part_of options least) options.step_ms
+  wanted_at true least = record { from = from_zero o.step; to = omega (arith, ints) }
+  wanted_at false least = travel_part_in least
+
+  even_at : (b : Bool) (least : ℤ) → IsEven (if b then options.step_ms else travel_part_of options least)
+  even_at true least = o.step_even
+  even_at false least = travel_part_even least
 
   pub wanted_in : (least : ℤ) → IsBetween (pos 0) (wanted_of options least) options.step_ms
   unfolding wanted_of
-  wanted_in least = wanted_at (int_eq options.variable6 (pos 0)) (unsigned_abs (options.variable6 *ℤ least) / 2_000_000)
+  wanted_in least = wanted_at (int_eq options.variable6 (pos 0)) least
 
   pub wanted_even : (least : ℤ) → IsEven (wanted_of options least)
   unfolding wanted_of
-  wanted_even least = even_at (int_eq options.variable6 (pos 0)) (unsigned_abs (options.variable6 *ℤ least) / 2_000_000)
+  wanted_even least = even_at (int_eq options.variable6 (pos 0)) least
 
   pub travel_fits : {least : ℤ} → IsBetween (pos 0) least (pos 3_600_000) → FitsSigned w64 (options.variable6 *ℤ least)
   travel_fits h = fits64 (within_mul (within_between o.variable) (within_between h)) tt
@@ -115,3 +124,12 @@ module _ {options : Options} (o : AreRunOptions options) where
 
     pub step_in : IsRunStep options (moment +ℤ length_of options moment least) (length_of options moment least)
     step_in = record { finish_in = finish_in; length_in = length_in }
+
+-- ---- what is wanted of a step, by its kind
+pub wanted_constant : (options : Options) (least : ℤ) → int_eq options.variable6 (pos 0) ≡ true → wanted_of options least ≡ options.step_ms
+unfolding wanted_of
+wanted_constant options least is = rw is refl
+
+pub wanted_variable : (options : Options) (least : ℤ) → int_eq options.variable6 (pos 0) ≡ false → wanted_of options least ≡ travel_part_of options least
+unfolding wanted_of
+wanted_variable options least is = rw is refl

@@ -1,6 +1,5 @@
 -- The states of a run (Reference Manual volume II, chapter 3; this project's profile).
-use Rattle.std.specs.Prelude.{ℕ, zero, suc, if◌then◌else◌, List, replicate, ℤ, pos, ◌+ℤ◌, ◌-ℤ◌}
-use Rattle.std.specs.Int.{int_max}
+use Rattle.std.specs.Prelude.{ℕ, zero, suc, if◌then◌else◌, true, List, replicate, ℤ, pos, ◌+ℤ◌, ◌-ℤ◌}
 use Rattle.net_types.specs.declared.network.Link.{Link}
 use Rattle.net_types.specs.declared.network.LinkKind.{LinkKind}
 use Rattle.net_types.specs.declared.network.LinkKind.TheVariants.{Conduit, Pump, Orifice, Weir}
@@ -30,18 +29,6 @@ abbrev pub project_law : Project → Law
 project_law project = law_of (hydraulics_of project)
 
 -- ---- the opening state
--- the head of a node in the beginning: a junction has its initial depth, an outfall its stage where that is
--- above its invert
-abbrev pub kind_head : NodeKind → (invert y0 stage : ℤ) → ℤ
-kind_head (Outfall kind gated) invert y0 stage = int_max invert stage
-kind_head (Junction surcharge pond) invert y0 stage = invert +ℤ y0
-kind_head (Storage shape) invert y0 stage = invert +ℤ y0
-
-abbrev pub opening_head : Project → ℕ → ℤ
-opening_head project n =
-    let node = node_of project.nodes n in
-    kind_head node.kind node.invert node.y0 (stage_at project n (pos 0))
-
 -- the flow of a link in the beginning
 abbrev pub kind_flow : LinkKind → ℤ
 kind_flow (Conduit long n6 z1 z2 q0 q_max entry6 exit6 avg6 flap) = q0
@@ -62,7 +49,30 @@ opening_node project n = record {
   dt = pos 0;
 }
 
--- the state before the first step: initial heads and flows, and what the nodes get of these flows
+-- what the links bring to a node and take from it in the beginning
+abbrev pub opening_inflow : Project → ℕ → ℤ
+opening_inflow project n = pos (inflow_of (project_law project) (opening_flow project.links) n)
+
+abbrev pub opening_outflow : Project → ℕ → ℤ
+opening_outflow project n = pos (outflow_of (project_law project) (opening_flow project.links) n)
+
+-- the head that the law of a node gives in the beginning, by its stage and by what its links bring and take
+unfoldable pub opening_level : Project → ℕ → ℤ
+opening_level project n =
+    ((project_law project).next n (opening_node project n) true
+    (opening_inflow project n) (opening_outflow project n) (pos 0) (pos 0)).head
+
+-- the head of a node in the beginning: a junction and a storage have their initial depth, an outfall has that level
+abbrev pub kind_head : NodeKind → (invert y0 level : ℤ) → ℤ
+kind_head (Outfall stage gated) invert y0 level = level
+kind_head (Junction surcharge pond) invert y0 level = invert +ℤ y0
+kind_head (Storage shape) invert y0 level = invert +ℤ y0
+
+abbrev pub opening_head : Project → ℕ → ℤ
+opening_head project n =
+    let node = node_of project.nodes n in kind_head node.kind node.invert node.y0 (opening_level project n)
+
+-- the state before the first step: initial flows, what the nodes get of these flows, and initial heads
 unfoldable pub opening : Project → Nets
 opening project =
     let law = project_law project in
@@ -70,8 +80,8 @@ opening project =
     record {
       heads = list_of (opening_head project) law.nodes;
       flows = list_of flow law.links;
-      inflows = list_of (λ n. pos (inflow_of law flow n)) law.nodes;
-      outflows = list_of (λ n. pos (outflow_of law flow n)) law.nodes;
+      inflows = list_of (opening_inflow project) law.nodes;
+      outflows = list_of (opening_outflow project) law.nodes;
       areas = replicate law.nodes (pos 0);
       read_heads = replicate law.nodes (pos 0);
       links = replicate law.links no_link;

@@ -20,14 +20,17 @@ goes_on options moment = int_lt moment (duration_of options)
 unfoldable pub shortest_of : Options → ℤ
 shortest_of options =
     let share = (unsigned_abs (duration_of options) + 99_999_999) / 100_000_000 in
-    int_min (int_max (pos 500) (pos (2 * share))) options.step_ms
+    int_min (int_max (pos (2 * share)) (pos 500)) options.step_ms
 
--- the length that a step is to have, in ms: the routing step, or a part of the least travel time of a wave in the trial
--- before it, rounded down to an even number and brought between the shortest step and the routing step
+-- a part of the least travel time of a wave, in ms: rounded down to an even number and brought between the shortest step
+-- and the routing step; that, or the routing step, is the length that a step is to have
+unfoldable pub travel_part_of : Options → (least : ℤ) → ℤ
+travel_part_of options least =
+    cut_of (pos (2 * (unsigned_abs (options.variable6 *ℤ least) / 2_000_000))) (shortest_of options) options.step_ms
+
 unfoldable pub wanted_of : Options → (least : ℤ) → ℤ
 wanted_of options least =
-    if int_eq options.variable6 (pos 0) then options.step_ms
-    else cut_of (pos (2 * (unsigned_abs (options.variable6 *ℤ least) / 2_000_000))) (shortest_of options) options.step_ms
+    if int_eq options.variable6 (pos 0) then options.step_ms else travel_part_of options least
 
 -- the length of the step that begins at a moment, in ms: no more than the time that is left
 unfoldable pub length_of : Options → (moment least : ℤ) → ℤ

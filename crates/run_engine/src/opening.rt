@@ -1,5 +1,5 @@
 // The opening state of a run.
-ghost use Rattle.std.specs.Prelude.{◌≡◌, ◌<◌, ◌≤◌, ◌^◌, length, pos, IfOk};
+ghost use Rattle.std.specs.Prelude.{◌≡◌, ◌<◌, length, pos, IfOk};
 ghost use Rattle.fixed_num.specs.Ranges.{IsElevation, IsDepth, IsFlow};
 ghost use Rattle.link_eval.specs.Hydraulics.{hydraulics_of};
 ghost use Rattle.trial_model.specs.Start.{resting};
@@ -7,11 +7,12 @@ ghost use Rattle.fixed_num.specs.Lists.{list_of, number};
 ghost use Rattle.run_engine.specs.Amounts.{laterals_at};
 ghost use Rattle.run_engine.specs.Ready.{IsReady};
 ghost use Rattle.run_engine.specs.States.{kind_flow, kind_head, opening};
-ghost use Rattle.run_engine.specs.States.{opening_flow, opening_head, opening_node};
+ghost use Rattle.run_engine.specs.States.{opening_flow, opening_head, opening_inflow, opening_level};
+ghost use Rattle.run_engine.specs.States.{opening_node, opening_outflow};
 
 use link_eval::HydraulicLaw;
 use net_types::{Link, LinkKind, NodeKind, OutOfMemory, Project};
-use phase_law::NodeFixed;
+use phase_law::{NodeFixed, PhaseLaw};
 use std::alloc::Global;
 use time_series::{lateral_flows, node_stage};
 use trial_model::{Nets, sum_flows};
@@ -47,42 +48,105 @@ fn open_nets(project: &Project, law: &HydraulicLaw, laterals: &[i128], nets: &mu
     ensures { nets.new ≡ opening project.now }
 {
     let links = project.links.as_slice();
-    open_heads(project, nets.heads.as_mut_slice());
     open_flows(links, nets.flows.as_mut_slice());
     open_nodes(project, laterals, nets.nodes.as_mut_slice());
     sum_flows(law, nets);
+    let nodes = nets.nodes.as_slice();
+    let inflows = nets.inflows.as_slice();
+    let outflows = nets.outflows.as_slice();
+    open_heads(
+        project,
+        law,
+        nodes,
+        inflows,
+        outflows,
+        nets.heads.as_mut_slice(),
+    );
 }
 
 // Sets the initial head of every node, in µm.
-fn open_heads(project: &Project, heads: &mut [i64])
+fn open_heads(
+    project: &Project,
+    law: &HydraulicLaw,
+    nodes: &[NodeFixed],
+    inflows: &[i64],
+    outflows: &[i64],
+    heads: &mut [i64],
+)
     requires project { IsReady project.now }
+    requires law { law.now.hydraulics ≡ hydraulics_of project.now }
+    requires nodes { nodes.now ≡ list_of (opening_node project.now) (length project.now.nodes) }
+    requires inflows { inflows.now ≡ list_of (opening_inflow project.now) (length project.now.nodes) }
+    requires outflows { outflows.now ≡ list_of (opening_outflow project.now) (length project.now.nodes) }
     requires heads { length heads.old ≡ length project.now.nodes }
     ensures { heads.new ≡ list_of (opening_head project.now) (length project.now.nodes) }
 {
     let count = project.nodes.as_slice().len() as u32;
     for n in 0..count {
-        heads[n as usize] = open_head(project, n);
+        heads[n as usize] = open_head(project, law, nodes, inflows, outflows, n);
     }
 }
 
 // The initial head of a node, in µm.
-fn open_head(project: &Project, n: u32) -> i64
+fn open_head(
+    project: &Project,
+    law: &HydraulicLaw,
+    nodes: &[NodeFixed],
+    inflows: &[i64],
+    outflows: &[i64],
+    n: u32,
+) -> i64
     requires project { IsReady project.now }
+    requires law { law.now.hydraulics ≡ hydraulics_of project.now }
+    requires nodes { nodes.now ≡ list_of (opening_node project.now) (length project.now.nodes) }
+    requires inflows { inflows.now ≡ list_of (opening_inflow project.now) (length project.now.nodes) }
+    requires outflows { outflows.now ≡ list_of (opening_outflow project.now) (length project.now.nodes) }
     requires n { n < length project.now.nodes }
     ensures { result ≡ opening_head project.now n }
 {
+    let level = open_level(project, law, nodes, inflows, outflows, n);
     let node = &project.nodes.as_slice()[n as usize];
-    kind_head(&node.kind, node.invert, node.y0, node_stage(project, n, 0))
+    kind_head(&node.kind, node.invert, node.y0, level)
 }
 
-// The initial head of a node of this kind, in µm.
-fn kind_head(kind: &NodeKind, invert: i64, y0: i64, stage: i64) -> i64
+// The head that the law of a node gives in the beginning, in µm.
+fn open_level(
+    project: &Project,
+    law: &HydraulicLaw,
+    nodes: &[NodeFixed],
+    inflows: &[i64],
+    outflows: &[i64],
+    n: u32,
+) -> i64
+    requires project { IsReady project.now }
+    requires law { law.now.hydraulics ≡ hydraulics_of project.now }
+    requires nodes { nodes.now ≡ list_of (opening_node project.now) (length project.now.nodes) }
+    requires inflows { inflows.now ≡ list_of (opening_inflow project.now) (length project.now.nodes) }
+    requires outflows { outflows.now ≡ list_of (opening_outflow project.now) (length project.now.nodes) }
+    requires n { n < length project.now.nodes }
+    ensures { result ≡ opening_level project.now n }
+{
+    let place = n as usize;
+    law.node_next(
+        n,
+        &nodes[place],
+        true,
+        inflows[place],
+        outflows[place],
+        0,
+        0,
+    )
+    .head
+}
+
+// The initial head of a node of this kind, whose law gives this level, in µm.
+fn kind_head(kind: &NodeKind, invert: i64, y0: i64, level: i64) -> i64
     requires invert { IsElevation invert }
     requires y0 { IsDepth y0 }
-    ensures { result ≡ kind_head kind.now invert y0 stage }
+    ensures { result ≡ kind_head kind.now invert y0 level }
 {
     match kind {
-        NodeKind::Outfall { .. } => invert.max(stage),
+        NodeKind::Outfall { .. } => level,
         NodeKind::Junction { .. } | NodeKind::Storage { .. } => invert + y0,
     }
 }

@@ -1,8 +1,10 @@
 // The steps of a run in time.
 ghost use Rattle.std.specs.Prelude.{◌≡◌, pos, ◌+ℤ◌};
+ghost use Rattle.std.specs.Ordering.{int_eq};
 ghost use Rattle.fixed_num.specs.Ranges.{IsBetween, IsEven};
 ghost use Rattle.run_engine.specs.Times.{AreRunOptions, IsRunStep, IsRunTime};
-ghost use Rattle.run_engine.specs.Times.{duration_of, goes_on, length_of, shortest_of, wanted_of};
+ghost use Rattle.run_engine.specs.Times.{duration_of, goes_on, length_of, shortest_of, travel_part_of};
+ghost use Rattle.run_engine.specs.Times.{wanted_of};
 
 use net_types::Options;
 
@@ -48,9 +50,28 @@ fn wanted(options: &Options, least: i64) -> i64
     ensures range { IsBetween (pos 0) result options.now.step_ms }
     ensures even { IsEven result }
 {
-    if options.variable6 == 0 {
-        return options.step_ms;
+    if is_constant(options) {
+        options.step_ms
+    } else {
+        travel_part(options, least)
     }
+}
+
+// Whether all steps have the length of the options.
+fn is_constant(options: &Options) -> bool
+    ensures { result ≡ int_eq options.now.variable6 (pos 0) }
+{
+    options.variable6 == 0
+}
+
+// The length in ms of a step by the least travel time before it.
+fn travel_part(options: &Options, least: i64) -> i64
+    requires options { AreRunOptions options.now }
+    requires least { IsBetween (pos 0) least (pos 3_600_000) }
+    ensures value { result ≡ travel_part_of options.now least }
+    ensures range { IsBetween (pos 0) result options.now.step_ms }
+    ensures even { IsEven result }
+{
     let half = (options.variable6 * least).unsigned_abs() / 2_000_000;
     ((2 * half) as i64)
         .max(shortest(options))

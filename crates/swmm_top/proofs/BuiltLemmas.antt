@@ -1,23 +1,16 @@
 -- The test of what is built tells whether it is.
-use Rattle.std.proofs.Common.{◌≡◌, Bool, true, false, not, ◌&&◌, List, [], ◌∷◌, ℤ, pos, refl}
+use Rattle.std.proofs.Common.{◌≡◌, Bool, true, false, ◌&&◌, List, [], ◌∷◌, refl}
 use Rattle.std.specs.Bool.{Decides, ⊤}
 use Rattle.std.specs.List.{All, list_all}
-use Rattle.std.proofs.lemmas.Bool.Decides.{Decides-and, Decides-by_and, Decides-int_eq, Decides-like}
-use Rattle.link_eval.specs.Built.{HasHydraulics, IsBuiltLink, IsConduitKind}
+use Rattle.std.proofs.lemmas.Bool.Decides.{Decides-and, Decides-by_and, Decides-like}
+use Rattle.link_eval.specs.Built.{IsBuiltLink, IsConduitKind}
 use Rattle.net_types.specs.declared.network.Link.{Link}
 use Rattle.net_types.specs.declared.network.LinkKind.{LinkKind}
 use Rattle.net_types.specs.declared.network.LinkKind.TheVariants.{Conduit, Pump, Orifice, Weir}
-use Rattle.net_types.specs.declared.network.Node.{Node}
-use Rattle.net_types.specs.declared.network.NodeKind.{NodeKind}
-use Rattle.net_types.specs.declared.network.NodeKind.TheVariants.{Junction, Outfall, Storage}
-use Rattle.net_types.specs.declared.network.Stage.{Stage}
-use Rattle.net_types.specs.declared.network.Stage.TheVariants.{Free, Normal, Fixed, Tidal, Series}
 use Rattle.net_types.specs.declared.project.Project.{Project}
-use Rattle.node_update.specs.Network.{HasNodeLaws, IsBuiltKind, IsFixedStage}
 use Rattle.run_engine.specs.Ready.{IsBuilt}
-use Rattle.swmm_top.specs.Built.{are_built_links, are_built_nodes, are_built_steps, is_built}
-use Rattle.swmm_top.specs.Built.{is_built_kind, is_built_link, is_built_node}
-use Rattle.swmm_top.specs.Built.{is_conduit, is_empty, is_fixed}
+use Rattle.swmm_top.specs.Built.{are_built_links, are_built_steps, is_built}
+use Rattle.swmm_top.specs.Built.{is_built_link, is_conduit, is_empty}
 
 yes : Decides true ⊤
 yes = ((λ h. tt), (λ t. refl))
@@ -25,31 +18,8 @@ yes = ((λ h. tt), (λ t. refl))
 no : Decides false ⊥
 no = ((λ h. let never : ⊥ = cc in never), (λ n. absurd n))
 
--- ---- nodes
-fixed_told : (stage : Stage) → Decides (is_fixed stage) (IsFixedStage stage)
-fixed_told Free = no
-fixed_told Normal = no
-fixed_told (Fixed level) = yes
-fixed_told (Tidal curve) = no
-fixed_told (Series series) = no
-
-kind_told : (kind : NodeKind) → Decides (is_built_kind kind) (IsBuiltKind kind)
-kind_told (Junction surcharge pond) = yes
-kind_told (Outfall stage gated) = fixed_told stage
-kind_told (Storage shape) = no
-
 all_told : {A : Type 0} (test : A → Bool) (P : A → Type 0) → ((x : A) → Decides (test x) (P x)) → (xs : List A) → Decides (list_all test xs) (All P xs)
 all_told test P each xs = Decides-by_and test P (list_all test) each refl (λ x xs. refl) xs
-
-not_told : (b : Bool) → Decides (not b) (b ≡ false)
-not_told true = ((λ h. let never : ⊥ = cc in absurd never), (λ e. let never : ⊥ = cc in absurd never))
-not_told false = ((λ h. refl), (λ e. refl))
-
-nodes_told : (project : Project) → Decides (are_built_nodes project) (HasNodeLaws project)
-nodes_told project =
-    Decides-like {P = (project.options.ponding ≡ false) × All (λ (node : Node). IsBuiltKind node.kind) project.nodes} (are_built_nodes project)
-    (λ p. record { nodes = p.1; no_ponding = p.0 }) (λ h. (h.no_ponding, h.nodes))
-    (Decides-and _ _ (not_told project.options.ponding) (all_told is_built_node (λ (node : Node). IsBuiltKind node.kind) (λ node. kind_told node.kind) project.nodes))
 
 -- ---- links
 conduit_told : (kind : LinkKind) → Decides (is_conduit kind) (IsConduitKind kind)
@@ -69,28 +39,20 @@ empty_told : {A : Type 0} (xs : List A) → Decides (is_empty xs) (xs ≡ [])
 empty_told [] = ((λ h. refl), (λ e. refl))
 empty_told (x ∷ xs) = ((λ h. let never : ⊥ = cc in absurd never), (λ e. let never : ⊥ = cc in absurd never))
 
--- no control rules, no runoff and no steps of variable length
+-- neither control rules nor subcatchments
 HasBuiltSteps : Project → Type 0
-HasBuiltSteps project = (project.rules ≡ []) × ((project.subs ≡ []) × (project.options.variable6 ≡ pos 0))
+HasBuiltSteps project = (project.rules ≡ []) × (project.subs ≡ [])
 
 steps_told : (project : Project) → Decides (are_built_steps project) (HasBuiltSteps project)
-steps_told project =
-    Decides-and _ _ (empty_told project.rules)
-    (Decides-and _ _ (empty_told project.subs) (Decides-int_eq project.options.variable6 (pos 0)))
+steps_told project = Decides-and _ _ (empty_told project.rules) (empty_told project.subs)
 
 -- ---- the whole
-parts : (project : Project) → IsBuilt project → HasNodeLaws project × (All IsBuiltLink project.links × HasBuiltSteps project)
-parts project h = (h.hydraulics.nodes, (h.hydraulics.links, (h.no_rules, (h.no_runoff, h.constant_steps))))
+parts : (project : Project) → IsBuilt project → All IsBuiltLink project.links × HasBuiltSteps project
+parts project h = (h.hydraulics.links, (h.no_rules, h.no_runoff))
 
 pub built_told : (project : Project) → Decides (is_built project) (IsBuilt project)
 unfolding is_built
 built_told project =
-    Decides-like {P = HasNodeLaws project × (All IsBuiltLink project.links × HasBuiltSteps project)} (is_built project)
-    (λ p. record {
-      hydraulics = record { nodes = p.0; links = p.1.0 };
-      no_rules = p.1.1.0;
-      no_runoff = p.1.1.1.0;
-      constant_steps = p.1.1.1.1;
-    })
-    (parts project)
-    (Decides-and _ _ (nodes_told project) (Decides-and _ _ (links_told project) (steps_told project)))
+    Decides-like {P = All IsBuiltLink project.links × HasBuiltSteps project} (is_built project)
+    (λ p. record { hydraulics = record { links = p.0 }; no_rules = p.1.0; no_runoff = p.1.1 }) (parts project)
+    (Decides-and _ _ (links_told project) (steps_told project))

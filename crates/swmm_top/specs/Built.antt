@@ -1,33 +1,11 @@
--- Whether all is built that a run needs of a project: junctions and outfalls of fixed stage without ponding, conduits,
--- and neither control rules nor runoff nor steps of variable length (User's Manual, appendix D).
-use Rattle.std.specs.Prelude.{Bool, true, false, not, ◌&&◌, List, [], ◌∷◌, pos}
+-- Whether all is built that a run needs of a project: its links are conduits, and it has neither control rules nor
+-- subcatchments (User's Manual, appendix D).
+use Rattle.std.specs.Prelude.{Bool, true, false, ◌&&◌, List, [], ◌∷◌}
 use Rattle.std.specs.List.{list_all}
-use Rattle.std.specs.Ordering.{int_eq}
 use Rattle.net_types.specs.declared.network.Link.{Link}
 use Rattle.net_types.specs.declared.network.LinkKind.{LinkKind}
 use Rattle.net_types.specs.declared.network.LinkKind.TheVariants.{Conduit, Pump, Orifice, Weir}
-use Rattle.net_types.specs.declared.network.Node.{Node}
-use Rattle.net_types.specs.declared.network.NodeKind.{NodeKind}
-use Rattle.net_types.specs.declared.network.NodeKind.TheVariants.{Junction, Outfall, Storage}
-use Rattle.net_types.specs.declared.network.Stage.{Stage}
-use Rattle.net_types.specs.declared.network.Stage.TheVariants.{Free, Normal, Fixed, Tidal, Series}
 use Rattle.net_types.specs.declared.project.Project.{Project}
-
--- ---- nodes
-abbrev pub is_fixed : Stage → Bool
-is_fixed Free = false
-is_fixed Normal = false
-is_fixed (Fixed level) = true
-is_fixed (Tidal curve) = false
-is_fixed (Series series) = false
-
-abbrev pub is_built_kind : NodeKind → Bool
-is_built_kind (Junction surcharge pond) = true
-is_built_kind (Outfall stage gated) = is_fixed stage
-is_built_kind (Storage shape) = false
-
-abbrev pub is_built_node : Node → Bool
-is_built_node node = is_built_kind node.kind
 
 -- ---- links
 abbrev pub is_conduit : LinkKind → Bool
@@ -45,15 +23,11 @@ is_empty [] = true
 is_empty (x ∷ more) = false
 
 -- ---- the whole
-abbrev pub are_built_nodes : Project → Bool
-are_built_nodes project = not project.options.ponding && list_all is_built_node project.nodes
-
 abbrev pub are_built_links : Project → Bool
 are_built_links project = list_all is_built_link project.links
 
 abbrev pub are_built_steps : Project → Bool
-are_built_steps project =
-    is_empty project.rules && (is_empty project.subs && int_eq project.options.variable6 (pos 0))
+are_built_steps project = is_empty project.rules && is_empty project.subs
 
 unfoldable pub is_built : Project → Bool
-is_built project = are_built_nodes project && (are_built_links project && are_built_steps project)
+is_built project = are_built_links project && are_built_steps project

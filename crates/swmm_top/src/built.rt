@@ -1,11 +1,10 @@
 // Whether all is built that a run needs of a project.
 ghost use Rattle.std.specs.Prelude.{◌≡◌};
 ghost use Rattle.std.specs.List.{list_all};
-ghost use Rattle.swmm_top.specs.Built.{are_built_links, are_built_nodes, are_built_steps};
-ghost use Rattle.swmm_top.specs.Built.{is_built, is_built_kind, is_built_link};
-ghost use Rattle.swmm_top.specs.Built.{is_built_node, is_conduit, is_fixed};
+ghost use Rattle.swmm_top.specs.Built.{are_built_links, are_built_steps};
+ghost use Rattle.swmm_top.specs.Built.{is_built, is_built_link, is_conduit, is_empty};
 
-use net_types::{Link, LinkKind, Node, NodeKind, Project, Stage};
+use net_types::{Link, LinkKind, Project, Sub};
 
 /// Whether all is built that a run needs of a project: a run of another is refused. `built_is_told` says that
 /// the test of `specs/Built.antt` tells exactly that.
@@ -15,29 +14,10 @@ use net_types::{Link, LinkKind, Node, NodeKind, Project, Stage};
 pub fn is_built(project: &Project) -> bool
     ensures { result ≡ is_built project.now }
 {
-    if !are_built_nodes(project) {
-        return false;
-    }
     if !are_built_links(project) {
         return false;
     }
     are_built_steps(project)
-}
-
-// Whether the laws of all nodes are built.
-fn are_built_nodes(project: &Project) -> bool
-    ensures { result ≡ are_built_nodes project.now }
-{
-    if project.options.ponding {
-        return false;
-    }
-    all_nodes(project.nodes.as_slice())
-}
-
-fn all_nodes(nodes: &[Node]) -> bool
-    ensures { result ≡ list_all is_built_node nodes.now }
-{
-    nodes.iter().all(|node| is_built_node(node))
 }
 
 // Whether the laws of all links are built.
@@ -53,36 +33,23 @@ fn all_links(links: &[Link]) -> bool
     links.iter().all(|link| is_built_link(link))
 }
 
-// Whether the project has neither control rules nor runoff nor steps of variable length.
+// Whether the project has neither control rules nor subcatchments.
 fn are_built_steps(project: &Project) -> bool
     ensures { result ≡ are_built_steps project.now }
 {
-    match (project.rules.as_slice(), project.subs.as_slice()) {
-        ([], []) => project.options.variable6 == 0,
-        _ => false,
+    match project.rules.as_slice() {
+        [] => has_no_subs(project.subs.as_slice()),
+        [_, ..] => false,
     }
 }
 
-fn is_built_node(node: &Node) -> bool
-    ensures { result ≡ is_built_node node.now }
+fn has_no_subs(subs: &[Sub]) -> bool
+    ensures { result ≡ is_empty subs.now }
 {
-    is_built_kind(&node.kind)
-}
-
-fn is_built_kind(kind: &NodeKind) -> bool
-    ensures { result ≡ is_built_kind kind.now }
-{
-    match kind {
-        NodeKind::Junction { .. } => true,
-        NodeKind::Outfall { stage, .. } => is_fixed(stage),
-        NodeKind::Storage { .. } => false,
+    match subs {
+        [] => true,
+        [_, ..] => false,
     }
-}
-
-fn is_fixed(stage: &Stage) -> bool
-    ensures { result ≡ is_fixed stage.now }
-{
-    matches!(stage, Stage::Fixed(_))
 }
 
 fn is_built_link(link: &Link) -> bool

@@ -2,8 +2,8 @@
 ghost use Rattle.std.specs.Prelude.{◌≡◌, List as Sequence, ℕ, Option as Maybe};
 ghost use Rattle.std.specs.Bool.{Decides};
 ghost use Rattle.net_types.specs.declared.project.Project.{Project as ProjectOf};
-ghost use Rattle.run_engine.specs.Ready.{IsBuilt};
 ghost use Rattle.swmm_top.specs.Built.{is_built};
+ghost use Rattle.run_engine.specs.Ready.{IsBuilt};
 ghost use Rattle.swmm_top.specs.CommandWords.{Command as CommandOf};
 ghost use Rattle.swmm_top.specs.Outcome.{Outcome, IsOutcome};
 
@@ -19,7 +19,8 @@ pub fn outcome_exists()
         → (given : Outcome) × IsOutcome command input hotstart given }
 {}
 
-/// The test of what is built tells exactly whether all is built that a run needs.
+/// The test of what is built tells exactly whether all is built that a run needs, and nothing else is there that a run
+/// would have to know.
 pub fn built_is_told()
     ensures { (project : ProjectOf) → Decides (is_built project) (IsBuilt project) }
 {}

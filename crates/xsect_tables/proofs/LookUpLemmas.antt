@@ -214,3 +214,13 @@ row_at-top {heights = heights} row {y = y} g h =
 pub placed : {heights : List ℤ} (row : List ℤ) {y : ℤ} {place : Place} → IsPlace heights y place → value_at heights row place.depth place.strip ≡ row_at heights row y
 unfolding row_at
 placed row p = cc (p.depth, p.strip)
+
+-- ---- a strip found by its two grid heights
+pub strip_by_ends : {heights : List ℤ} {y : ℤ} (i : ℕ) → IsGrid heights → pos 0 ≤ℤ y → i ≤ 199 → entry heights i ≤ℤ y → (i < 199 → y <ℤ entry heights (i + 1)) → i ≡ strip_at heights y
+strip_by_ends {heights = heights} {y = pos y} i g h most low high =
+    let f = full_number g in
+    let here = height g f.1 i (omega (arith, most)) in
+    let next = height g f.1 (i + 1) (omega (arith, most)) in
+    let from : grid f.0 i ≤ y = omega (arith, ints, low, here) in
+    sym (strip_is f.0 y i g f.1 most from (λ k. omega (arith, ints, high k, next)))
+strip_by_ends {heights = heights} {y = negsuc y} i g h most low high = absurd h.le

@@ -1,7 +1,9 @@
 // Celerity, uniform flow, and the depths at which a flow is critical or normal.
-ghost use Rattle.std.specs.Prelude.{◌≡◌, ℕ, ◌*◌, ◌^◌, ◌≤◌, ℤ, pos, ◌*ℤ◌, ◌≤ℤ◌};
+ghost use Rattle.std.specs.Prelude.{◌≡◌, ℕ, ◌*◌, ◌^◌, ◌≤◌, ℤ, pos, ◌*ℤ◌, ◌≤ℤ◌, int_le};
 ghost use Rattle.std.specs.Int.{int_max};
+ghost use Rattle.fixed_num.specs.declared.constants.TheConstants.{GRAVITY};
 ghost use Rattle.fixed_num.specs.Ranges.{IsBetween, IsConduitLength, IsRoughness, IsFall};
+ghost use Rattle.fixed_num.specs.Rounding.{quo_of};
 ghost use Rattle.xsect_tables.specs.LookUps.{ratio_of, radius_of, end_section_of, flow_section_of};
 ghost use Rattle.xsect_tables.specs.SectionTable.{full_height};
 ghost use Rattle.xsect_tables.specs.NormalFlow.{celerity_of, slope_of, speed_of, discharge_of, uniform_of};
@@ -10,6 +12,7 @@ ghost use Rattle.xsect_tables.specs.NormalFlow.{is_subcritical as subcritical_at
 
 use crate::table::Table;
 use fixed_num::{GRAVITY, quo, root2, root3};
+use quick_quotients::{quick_root2, reaches_root};
 
 /// The area below a depth, in mm², and the width there, in µm.
 #[derive(Clone, Copy, Debug)]
@@ -35,7 +38,28 @@ pub fn celerity(area: i64, width: i64) -> i64
     ensures value { result ≡ celerity_of area width }
     ensures range { IsBetween (pos 0) result (pos (10 ^ 16)) }
 {
-    root2(GRAVITY * quo(area as i128 * 1_000_000, width.max(1) as i128)) as i64
+    quick_root2(energy(area, width)) as i64
+}
+
+/// Whether a speed in µm/s is at least the [`celerity`] over an area in mm² of a width in µm. It computes no root.
+///
+/// Source: Reference Manual volume II, chapter 3, in whole numbers by this project's profile.
+pub fn reaches_celerity(speed: i128, area: i64, width: i64) -> bool
+    requires area { IsBetween (pos 0) area (pos (2 * 10 ^ 18)) }
+    requires width { IsBetween (pos 0) width (pos (10 ^ 18)) }
+    ensures { result ≡ int_le (celerity_of area width) speed }
+{
+    reaches_root(speed, energy(area, width))
+}
+
+// The square of the celerity, in µm²/s².
+fn energy(area: i64, width: i64) -> i128
+    requires area { IsBetween (pos 0) area (pos (2 * 10 ^ 18)) }
+    requires width { IsBetween (pos 0) width (pos (10 ^ 18)) }
+    ensures value { result ≡ GRAVITY *ℤ quo_of (area *ℤ pos 1_000_000) (int_max width (pos 1)) }
+    ensures range { IsBetween (pos 0) result (pos (10 ^ 32)) }
+{
+    GRAVITY * quo(area as i128 * 1_000_000, width.max(1) as i128)
 }
 
 // An area in mm² over a wetted perimeter in µm.

@@ -16,5 +16,5 @@ mod table;
 #[cfg(test)]
 mod tests;
 
-pub use flow::{EndSection, FlowSection, celerity};
+pub use flow::{EndSection, FlowSection, celerity, reaches_celerity};
 pub use table::Table;

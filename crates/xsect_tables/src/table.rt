@@ -10,7 +10,7 @@ ghost use Rattle.xsect_tables.specs.LookUps.{IsPlace, area_of, width_of, perimet
 ghost use Rattle.xsect_tables.specs.LookUps.{is_in_slot as reaches_into_slot, slot_area as area_of_slot};
 
 use crate::flow::ratio;
-use crate::look_up::{Place, place_of, value_at};
+use crate::look_up::{Inverses, Place, inverses_of, place_of, value_at};
 use crate::rows::{areas, heights, perimeters, widths};
 use fixed_num::quo;
 use net_types::{Section, Shape};
@@ -27,6 +27,7 @@ pub struct Table {
     barrels: i64,
     closed: bool,
     slot: i64,
+    inverses: Inverses,
 }
 
 impl Model for Table {
@@ -59,6 +60,7 @@ impl Table {
             barrels: section.barrels,
             closed: has_top(&section.shape),
             slot: slot(section.full),
+            inverses: inverses_of(section.full),
         }
     }
 
@@ -132,7 +134,7 @@ impl Table {
     pub(crate) fn place(&self, y: i64) -> Place
         ensures { IsPlace self.now.heights y result }
     {
-        place_of(&self.heights, y)
+        place_of(&self.heights, &self.inverses, y)
     }
 
     // The area below a depth whose place is known.

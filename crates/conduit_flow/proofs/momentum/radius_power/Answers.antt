@@ -6,17 +6,17 @@ use Rattle.fixed_num.specs.Roots.{root3_of}
 use Rattle.conduit_flow.specs.Momentum.{radius_power_of}
 use Rattle.conduit_flow.proofs.RangeLemmas.{root-between}
 use Rattle.conduit_flow.proofs.momentum.radius_power.Goals as goal
-use Rattle.conduit_flow.proofs.momentum.radius_power.Goals.{After-root3}
+use Rattle.conduit_flow.proofs.momentum.radius_power.Goals.{After-quick_root3}
 
-root : (c : After-root3) → c.root3.result ≡ root3_of (c.args.radius *ℤ pos 1_000_000_000)
+root : (c : After-quick_root3) → c.quick_root3.result ≡ root3_of (c.args.radius *ℤ pos 1_000_000_000)
 root c =
     let cube = within_mul (within_between c.requires.radius) (within_number 1_000_000_000) in
-    simp (to_z-of_z, c.ranges.radius, fits_wider _ c.ranges.radius, fits128 cube tt) at c.root3.ensures.value
+    simp (to_z-of_z, c.ranges.radius, fits_wider _ c.ranges.radius, fits128 cube tt) at c.quick_root3.ensures
 
-small : (c : After-root3) → IsBetween (pos 1) c.root3.result (pos (10 ^ 8))
+small : (c : After-quick_root3) → IsBetween (pos 1) c.quick_root3.result (pos (10 ^ 8))
 small c = rw (root c) (root-between c.requires.radius)
 
-value : (c : After-root3) → c.args.radius *ℤ c.root3.result ≡ radius_power_of c.args.radius
+value : (c : After-quick_root3) → c.args.radius *ℤ c.quick_root3.result ≡ radius_power_of c.args.radius
 unfolding radius_power_of
 value c = ap (λ (z : ℤ). c.args.radius *ℤ z) (root c)
 

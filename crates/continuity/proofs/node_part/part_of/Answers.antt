@@ -20,9 +20,9 @@ bounds-floods-node c = rw (c.requires.floods, floods_length c.args.law.now.hydra
 pub node-requires : goal.node-requires
 node-requires c = subst (λ (k : ℕ). c.args.node < k) (nodes_is c.args.law.now.hydraulics) c.requires.node
 
-pub rule_part-requires : goal.rule_part-requires
-rule_part-requires c =
-    let flooded = flood (goal.at.rule_part-requires c).After-change_at in
+pub step_part-requires : goal.step_part-requires
+step_part-requires c =
+    let flooded = flood (goal.at.step_part-requires c).After-change_at in
     simp (to_z-of_z, fits128 c.lateral_inflow.ensures.range tt, fits128 c.gain_at.ensures.range tt, fits128 flooded tt, fits128 c.change_at.ensures.range tt)
     (record { step = record { inflow = c.lateral_inflow.ensures.range; gain = c.gain_at.ensures.range; flood = flooded; change = c.change_at.ensures.range } })
 
@@ -31,6 +31,6 @@ unfolding node_part
 returns-clause-value c =
     let flooded = flood (goal.at.returns-clause-value c).After-change_at in
     let lateral = simp (to_z-of_z, c.ranges.ms, c.as_slice.ensures, c.as_slice-2.ensures) at c.lateral_inflow.ensures.value in
-    let part = simp (to_z-of_z, fits128 c.lateral_inflow.ensures.range tt, fits128 c.gain_at.ensures.range tt, fits128 flooded tt, fits128 c.change_at.ensures.range tt) at c.rule_part.ensures.value in
+    let part = simp (to_z-of_z, fits128 c.lateral_inflow.ensures.range tt, fits128 c.gain_at.ensures.range tt, fits128 flooded tt, fits128 c.change_at.ensures.range tt) at c.step_part.ensures.value in
     let is = flood_is c.args.law.now.hydraulics c.args.after.now c.args.node c.requires.node in
-    simp (lateral, c.gain_at.ensures.value, c.requires.floods, is, c.change_at.ensures.value, c.node.ensures.value) at part
+    simp (lateral, c.gain_at.ensures.value, c.requires.floods, is, c.change_at.ensures.value, c.node.ensures.value, c.is_outfall.ensures) at part

@@ -1,46 +1,28 @@
-use Rattle.std.proofs.Common.{◌∙◌, [], ap, subst, sym}
-use Rattle.net_types.specs.declared.options.Options.{Options}
-use Rattle.net_types.specs.declared.project.Project.{Project}
-use Rattle.inp_lines.specs.Faults.{cut}
-use Rattle.inp_lines.specs.Gather.{gather}
-use Rattle.inp_lines.specs.Merge.{merged}
-use Rattle.inp_options.specs.OptionLines.{option_fault}
-use Rattle.inp_options.specs.Options.{units_of}
-use Rattle.inp_objects.specs.Records.{object_fault}
-use Rattle.inp_tables.specs.SectionLines.{section_fault}
-use Rattle.inp_reader.proofs.FaultLemmas.{all_merged}
-use Rattle.net_types.specs.Ranges.{OptionsInRange}
-use Rattle.inp_reader.proofs.MeaningLemmas.{options_have_units, project_means}
+use Rattle.std.proofs.Common.{◌≡◌, ◌∙◌, ◌++◌, [], ap, subst, sym}
+use Rattle.inp_lines.specs.Numbers.{numbers_of}
+use Rattle.constant_inflows.specs.Inflows.{inflows_of}
+use Rattle.inp_reader.specs.Meaning.{Means}
+use Rattle.inp_reader.proofs.MeaningLemmas.{given_means}
+use Rattle.inp_reader.proofs.ReadLemmas.{faults_are, project_is}
 use Rattle.inp_reader.proofs.SoundLemmas.{project_sound}
 use Rattle.inp_reader.proofs.project.read_lines.Goals as goal
 
 pub returns-clause-faults : goal.returns-clause-faults
-returns-clause-faults c =
-    let lines = c.args.lines.now in
-    let first = c.read_options.new.faults in
-    let second = c.read_objects.new.faults in
-    let units = ap (λ (p : Project). p.options.units) (c.in_ok-read_tables.ensures.project ∙ c.empty_project-project.ensures)
-    ∙ (ap (λ o. o.units) c.in_ok-options.ensures.options ∙ options_have_units lines) in
-    let units_too = ap (λ (p : Project). p.options.units) c.in_ok-read_objects.ensures.project ∙ units in
-    all_merged lines c.requires.rise first second c.read_sections.new.faults c.read_others.new.faults
-    (c.in_ok-options.ensures.faults ∙ ap (λ old. cut (merged old (cut (gather (option_fault (units_of lines)) [] lines)))) c.requires.none)
-    (c.in_ok-read_objects.ensures.faults
-    ∙ (ap (λ old. cut (merged old (cut (gather (object_fault c.read_tables.new.project.options.units lines) [] lines)))) c.in_ok-read_tables.ensures.faults
-    ∙ ap (λ units. cut (merged first (cut (gather (object_fault units lines) [] lines)))) units))
-    (c.in_ok-read_sections.ensures.faults ∙ ap (λ units. cut (merged second (cut (gather (section_fault units lines) [] lines)))) units_too)
-    c.in_ok-read_others.ensures
+returns-clause-faults c = faults_are c.args.lines.now c.in_ok-options.options c.in_ok-known.known c.in_ok-options.ensures.options c.in_ok-known.ensures
+    c.requires.rise c.args.faults.now
+    c.read_options.new.faults c.in_ok-network.network.faults c.merge_faults.new.faults c.in_ok-surface.surface.faults c.merge_faults-2.new.faults
+    c.in_ok-of_inflows.of_inflows c.merge_faults-3.new.faults c.read_others.new.faults
+    c.requires.none c.in_ok-options.ensures.faults c.in_ok-network.ensures.faults c.in_ok-merge_faults.ensures c.in_ok-surface.ensures.faults c.in_ok-merge_faults-2.ensures
+    c.in_ok-of_inflows.ensures.faults c.in_ok-merge_faults-3.ensures c.in_ok-read_others.ensures
 
 pub returns-clause-project : goal.returns-clause-project
-returns-clause-project c =
-    project_means c.args.lines.now c.in_ok-title.title c.in_ok-options.warnings c.in_ok-options.options
-    c.empty_project-project.result c.read_tables.new.project c.read_objects.new.project c.read_sections.new.project _
-    c.in_ok-title.ensures c.in_ok-options.ensures.warnings c.in_ok-options.ensures.options
-    c.empty_project-project.ensures c.in_ok-read_tables.ensures.project
-    c.in_ok-read_objects.ensures.project c.in_ok-read_objects.ensures.meaning
-    c.in_ok-read_sections.ensures.project c.in_ok-read_sections.ensures.meaning
+returns-clause-project c none =
+    let inflows = c.in_ok-of_inflows.ensures.inflows ∙ ap (λ l. l ++ inflows_of c.in_ok-options.options.units (numbers_of c.in_ok-known.known.nodes) c.args.lines.now) c.new-inflows.ensures in
+    subst (Means c.args.lines.now) (sym (project_is c.args.lines.now c.in_ok-options.options c.in_ok-known.known c.in_ok-options.ensures.options c.in_ok-known.ensures
+    c.in_ok-title.title c.in_ok-options.warnings c.in_ok-surface.surface.gages c.in_ok-surface.surface.subs c.in_ok-network.network.nodes c.in_ok-network.network.links
+    c.read_inflows.new.inflows c.in_ok-title.ensures c.in_ok-options.ensures.warnings
+    c.in_ok-surface.ensures.gages c.in_ok-surface.ensures.subs c.in_ok-network.ensures.nodes c.in_ok-network.ensures.links inflows))
+    (given_means c.args.lines.now none)
 
 pub returns-clause-sound : goal.returns-clause-sound
-returns-clause-sound c none =
-    let meant = returns-clause-project c none in
-    project_sound c.args.lines.now c.read_sections.new.project none
-    (subst (λ (o : Options). OptionsInRange o) (c.in_ok-options.ensures.options ∙ sym meant.options_are) c.in_ok-options.ensures.range) meant
+returns-clause-sound c none = project_sound c.args.lines.now _ none c.in_ok-options.ensures.range (returns-clause-project c none)

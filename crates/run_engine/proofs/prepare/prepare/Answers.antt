@@ -33,4 +33,4 @@ returns-clause-nets c =
 pub returns-clause-fits : goal.returns-clause-fits
 returns-clause-fits c =
     let good = project_good c.args.law.now.hydraulics c.args.law.now.good c.args.project.now c.requires.law in
-    subst (λ (t : Nets). Fits (project_law c.args.project.now) t) (sym (returns-clause-nets c)) (prepared_fits good c.requires.project c.requires.fits c.requires.dt)
+    subst (λ (t : Nets). Fits (project_law c.args.project.now) t) (sym (returns-clause-nets c)) (prepared_fits good c.requires.project c.requires.fits c.args.finish c.requires.dt)

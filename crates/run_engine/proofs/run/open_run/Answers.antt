@@ -6,13 +6,15 @@ use Rattle.run_engine.specs.Results.{account_at}
 use Rattle.run_engine.specs.States.{project_law}
 use Rattle.run_engine.proofs.KeptLemmas.{kept_at, opening_at, opening_floods}
 use Rattle.run_engine.proofs.LawLemmas.{law_nodes, law_links}
+use Rattle.run_engine.proofs.ClockLemmas.{moment_first}
+use Rattle.run_engine.proofs.RunLemmas.{run_options}
 use Rattle.run_engine.proofs.StateLemmas.{counted_none}
 use Rattle.run_engine.proofs.run.open_run.Goals as goal
 
 pub open_sums-requires-clause-now : goal.open_sums-requires-clause-now
 open_sums-requires-clause-now c =
     let good = subst IsGood c.in_ok-law.ensures c.in_ok-law.law.good in
-    opening_at c.args.project c.in_ok-nets.nets good (record { faultless = c.requires.faultless; built = c.requires.built }) c.in_ok-nets.ensures
+    opening_at c.args.project c.in_ok-nets.nets good (record { faultless = c.requires.faultless; built = c.requires.built }) c.in_ok-nets.ensures.state
 
 pub open_sums-requires-clause-floods : goal.open_sums-requires-clause-floods
 open_sums-requires-clause-floods c =
@@ -27,8 +29,8 @@ invariant_of-result c =
     record {
       ready = record { faultless = c.requires.faultless; built = c.requires.built };
       law = c.in_ok-law.ensures;
-      within = omega arith;
-      now = opening_at project c.in_ok-nets.nets good (record { faultless = c.requires.faultless; built = c.requires.built }) c.in_ok-nets.ensures;
+      clock = moment_first project (run_options project (record { faultless = c.requires.faultless; built = c.requires.built }));
+      now = opening_at project c.in_ok-nets.nets good (record { faultless = c.requires.faultless; built = c.requires.built }) c.in_ok-nets.ensures.state;
       room = c.in_ok-before.ensures.fits (project_law project)
           (law_nodes project ∙ sym (ap length c.as_slice.ensures))
           (law_links project ∙ sym (ap length c.as_slice-2.ensures));

@@ -16,6 +16,6 @@ returns c =
     let low : FitsSigned w64 (entry c.args.row.now i) = search rules in
     let high : FitsSigned w64 (entry c.args.row.now (i + 1)) = search rules in
     let depth : FitsSigned w64 c.args.place.now.depth = search rules in
-    let result : FitsSigned w64 c.lerp.result = search rules in
-    let value = simp (to_z-of_z, fits64 lower tt, fits64 upper tt, depth, low, high) at c.lerp.ensures.value in
+    let result : FitsSigned w64 c.line_at.result = search rules in
+    let value = simp (to_z-of_z, fits64 lower tt, fits64 upper tt, depth, low, high) at c.line_at.ensures in
     simp (to_z-of_z, result) value

@@ -27,16 +27,16 @@ filled c =
 filled_within : (c : After-quo) → IsWithin (2 * 10 ^ 17 * (2 * 10 ^ 10 + 2 * 10 ^ 10)) c.quo.result
 filled_within c = rw (filled c) (within_quo (pos 1_000) (within_mul (within_between c.surface.ensures.range) (within_sub (top_within c.requires.law) c.requires.fixed.head)))
 
-value : (c : After-quo) → c.gain.result -ℤ c.quo.result ≡ excess_of c.args.self.now c.args.fixed.now c.args.inflow c.args.outflow c.args.area
+value : (c : After-quo) → c.gain.result -ℤ c.quo.result ≡ excess_of c.args.self.now c.args.fixed.now c.args.inflow c.args.outflow c.args.area c.args.last
 unfolding excess_of
 value c =
     let gain = simp (to_z-of_z, c.ranges.inflow, c.ranges.outflow) at c.gain.ensures.value in
-    let surface = simp (to_z-of_z, c.ranges.area) at c.surface.ensures.value in
+    let surface = simp (to_z-of_z, c.ranges.area, c.ranges.last) at c.surface.ensures.value in
     let f = filled c in
     cc (gain, surface, f)
 
 range : (c : After-quo) → IsWithin (10 ^ 25) (c.gain.result -ℤ c.quo.result)
-range c = rw (value c) (excess_within c.requires.law c.requires.fixed c.requires.sums)
+range c = rw (value c) (excess_within c.args.last c.requires.law c.requires.fixed c.requires.sums)
 
 pub overflow_sub-result : goal.overflow_sub-result
 overflow_sub-result c =

@@ -18,16 +18,16 @@ rise c =
 rise_within : (c : After-quo-rise) → IsWithin (10 ^ 24 * 1_000) c.quo-rise.result
 rise_within c = rw (rise c) (within_quo c.surface.result (within_mul c.gain.ensures.range (within_number 1_000)))
 
-value : (c : After-quo-rise) → c.args.fixed.now.h_old +ℤ c.quo-rise.result ≡ raised_of c.args.self.now c.args.fixed.now c.args.inflow c.args.outflow c.args.area
+value : (c : After-quo-rise) → c.args.fixed.now.h_old +ℤ c.quo-rise.result ≡ raised_of c.args.self.now c.args.fixed.now c.args.inflow c.args.outflow c.args.area c.args.last
 unfolding raised_of
 value c =
     let gain = simp (to_z-of_z, c.ranges.inflow, c.ranges.outflow) at c.gain.ensures.value in
-    let surface = simp (to_z-of_z, c.ranges.area) at c.surface.ensures.value in
+    let surface = simp (to_z-of_z, c.ranges.area, c.ranges.last) at c.surface.ensures.value in
     let r = rise c in
     cc (gain, surface, r)
 
 range : (c : After-quo-rise) → IsWithin (10 ^ 28) (c.args.fixed.now.h_old +ℤ c.quo-rise.result)
-range c = rw (value c) (raised_within c.requires.law c.requires.fixed c.requires.sums)
+range c = rw (value c) (raised_within c.args.last c.requires.law c.requires.fixed c.requires.sums)
 
 pub overflow_add-result : goal.overflow_add-result
 overflow_add-result c =

@@ -6,9 +6,9 @@ use Rattle.xsect_tables.specs.LookUps.{slot_width}
 use Rattle.xsect_tables.specs.SectionTable.{SectionTable, IsTable, RowBetween, full_area, table_of}
 use Rattle.xsect_tables.proofs.TableLemmas.{areas_are, slot_is, table_is}
 use Rattle.xsect_tables.proofs.table.Table.build.Goals as goal
-use Rattle.xsect_tables.proofs.table.Table.build.Goals.{After-slot}
+use Rattle.xsect_tables.proofs.table.Table.build.Goals.{After-inverses_of}
 
-value : (c : After-slot) → table_of c.args.section.now ≡ record { heights = c.heights.result; areas = c.areas.result; widths = c.widths.result; perimeters = c.perimeters.result; barrels = c.args.section.now.barrels; closed = c.has_top.result }
+value : (c : After-inverses_of) → table_of c.args.section.now ≡ record { heights = c.heights.result; areas = c.areas.result; widths = c.widths.result; perimeters = c.perimeters.result; barrels = c.args.section.now.barrels; closed = c.has_top.result }
 unfolding table_of
 value c =
     let full : FitsSigned w64 c.args.section.now.full = fits64 (within_between c.requires.full_in) tt in

@@ -32,3 +32,12 @@ returns-clause-value c = simp (to_z-of_z, fits128 (within_between (small c)) tt,
 
 pub returns-clause-range : goal.returns-clause-range
 returns-clause-range c = simp (to_z-of_z, fits128 (within_between (small c)) tt, fits64 (within_between (small c)) tt) (small c)
+
+pub overflow_mul-self-inside : goal.overflow_mul-self-inside
+overflow_mul-self-inside c =
+    let table = subst IsTable c.self.view_is c.self.invariant.rows in
+    let slot : c.self.inside.slot ≡ slot_width c.args.self.now = c.self.invariant.slot ∙ ap slot_width c.self.view_is in
+    let s : IsWithin (10 ^ 7) c.self.inside.slot = subst (IsWithin (10 ^ 7)) (sym slot) (within_between (slot-between table)) in
+    let top = within_between (height_between c.self.invariant.rows.heights 200 (omega arith)) in
+    let above = within_sub c.requires.depth top in
+    simp (to_z-of_z, fits64 s tt, fits128 s tt, c.ranges.y, fits_wider _ c.ranges.y, fits64 top tt, fits128 top tt, fits128 above tt) (fits128 (within_mul s above) tt)

@@ -1,0 +1,4 @@
+pub mod Items
+pub mod Sections
+pub mod Inflows
+pub mod Meaning

@@ -1,0 +1,5 @@
+pub mod RuleWords
+pub mod RuleValues
+pub mod Tests
+pub mod Actions
+pub mod Order

@@ -1,3 +1,0 @@
-pub mod SectionLines
-pub mod LinkSections
-pub mod SectionMeaning

@@ -1,0 +1,74 @@
+// Cube roots without a division.
+ghost use Rattle.std.specs.Prelude.{◌≡◌, ◌^◌, ◌<◌, pos, ◌≤ℤ◌, IsTrue};
+ghost use Rattle.fixed_num.specs.Roots.{root3_of};
+
+use crate::root::high;
+use fixed_num::root3;
+
+/// The greatest whole number whose cube is at most `a`, mostly without a division.
+///
+/// `a` is not negative and may be any number of 128 bits. Source: this project's profile.
+pub fn quick_root3(a: i128) -> i128
+    requires { pos 0 ≤ℤ a }
+    ensures { result ≡ root3_of a }
+{
+    if a >= SHORT {
+        return root3(a);
+    }
+    let short = a as u64;
+    let guess = guess_root3(short);
+    if is_root3(short, guess) {
+        return guess as i128;
+    }
+    if is_root3(short, guess + 1) {
+        return (guess + 1) as i128;
+    }
+    root3(a)
+}
+
+// The cube roots of all lower numbers have 21 bits.
+const SHORT: i128 = 4_611_686_018_427_387_904;
+
+// Whether a number is the cube root of another.
+fn is_root3(a: u64, root: u64) -> bool
+    requires { root < 2 ^ 21 }
+    ensures { IsTrue result → pos root ≡ root3_of (pos a) }
+{
+    let next = root + 1;
+    if (a as u128) < root as u128 * root as u128 * root as u128 {
+        return false;
+    }
+    (a as u128) < next as u128 * next as u128 * next as u128
+}
+
+// A number near the cube root, and mostly the root or one less: two of Newton's steps towards the inverse of the cube
+// root of `a` as a fraction of the next power of two, with 62 places, from a straight line.
+fn guess_root3(a: u64) -> u64
+    ensures { result < 2_097_151 }
+{
+    if a == 0 {
+        return 0;
+    }
+    let bits = a.ilog2() + 1;
+    let part = a << (64 - bits);
+    let start = 6_908_305_655_604_227_072u64.wrapping_sub(high(part, 2_351_959_869_397_867_972));
+    let inverse = step(part, step(part, start));
+    let root = high(part, high(inverse, inverse));
+    (high(root, power(bits % 3)) >> (58 - bits / 3)).min(2_097_150)
+}
+
+// The cube root of that power of two, with 62 places.
+fn power(bits: u32) -> u64 {
+    match bits {
+        0 => 4_611_686_018_427_387_904,
+        1 => 5_810_360_290_122_551_296,
+        _ => 7_320_595_236_998_661_120,
+    }
+}
+
+// One of Newton's steps towards the inverse of the cube root of a part.
+fn step(part: u64, inverse: u64) -> u64 {
+    let square = high(part, high(inverse, inverse));
+    let rest = 1_152_921_504_606_846_976u64.wrapping_sub(high(square, inverse));
+    (high(inverse, rest) / 3).wrapping_mul(64)
+}

@@ -1,0 +1,2 @@
+pub mod ShapeArea
+pub mod StoreTable
