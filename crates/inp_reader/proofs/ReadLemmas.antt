@@ -3,10 +3,15 @@ use Rattle.std.proofs.Common.{◌≡◌, ◌∙◌, ◌++◌, [], ℕ, List, ap}
 use Rattle.net_types.specs.declared.faults.LineFault.{LineFault}
 use Rattle.net_types.specs.declared.hydrology.Gage.{Gage}
 use Rattle.net_types.specs.declared.hydrology.Sub.{Sub}
+use Rattle.net_types.specs.declared.inflows.DryFlow.{DryFlow}
 use Rattle.net_types.specs.declared.inflows.Inflow.{Inflow}
 use Rattle.net_types.specs.declared.network.Link.{Link}
 use Rattle.net_types.specs.declared.network.Node.{Node}
 use Rattle.net_types.specs.declared.options.Options.{Options}
+use Rattle.net_types.specs.declared.rules.Rule.{Rule}
+use Rattle.net_types.specs.declared.tables.Curve.{Curve}
+use Rattle.net_types.specs.declared.tables.Pattern.{Pattern}
+use Rattle.net_types.specs.declared.tables.Series.{Series}
 use Rattle.inp_lines.specs.declared.line.Line.{Line}
 use Rattle.inp_lines.specs.Faults.{cut}
 use Rattle.inp_lines.specs.Gather.{gather}
@@ -67,17 +72,19 @@ module _ (lines : List Line) (options : Options) (known : Known) (options_are : 
       ∙ ap (λ n. cut (gather (inflow_fault_at (units_of lines) n) [] lines)) numbers_are)))
       e
 
-  pub project_is : (title warnings : List (List ℕ)) (gages : List Gage) (subs : List Sub) (nodes : List Node) (links : List Link) (inflows : List Inflow)
+  pub project_is : (title warnings : List (List ℕ)) (gages : List Gage) (subs : List Sub) (nodes : List Node) (links : List Link) (curves : List Curve) (series : List Series)
+      (patterns : List Pattern) (inflows : List Inflow) (dry : List DryFlow) (rules : List Rule)
       → title ≡ title_of lines → warnings ≡ warnings_of lines
       → gages ≡ gages_of (context_of known) lines → subs ≡ full_subs options.infil (context_of known) lines
       → nodes ≡ nodes_of (context_of known) lines → links ≡ full_links (context_of known) lines
       → inflows ≡ inflows_of options.units (numbers_of known.nodes) lines
-      → record { title = title; warnings = warnings; options = options; gages = gages; subs = subs; nodes = nodes; links = links; curves = []; series = []; patterns = []; inflows = inflows; dry = []; rules = [] } ≡ given_project lines
+      → curves ≡ [] → series ≡ [] → patterns ≡ [] → dry ≡ [] → rules ≡ []
+      → record { title = title; warnings = warnings; options = options; gages = gages; subs = subs; nodes = nodes; links = links; curves = curves; series = series; patterns = patterns; inflows = inflows; dry = dry; rules = rules } ≡ given_project lines
   unfolding given_project
-  project_is title warnings gages subs nodes links inflows t w g s n l f =
+  project_is title warnings gages subs nodes links curves series patterns inflows dry rules t w g s n l f c1 c2 c3 c4 c5 =
       let gages_are = g ∙ ap (λ k. gages_of k lines) context_is in
       let subs_are = s ∙ (ap (λ m. full_subs m (context_of known) lines) method_is ∙ ap (λ k. full_subs (method_of lines) k lines) context_is) in
       let nodes_are = n ∙ ap (λ k. nodes_of k lines) context_is in
       let links_are = l ∙ ap (λ k. full_links k lines) context_is in
       let inflows_are = f ∙ (ap (λ u. inflows_of u (numbers_of known.nodes) lines) units_are ∙ ap (λ n. inflows_of (units_of lines) n lines) numbers_are) in
-      λ i. record { title = t i; warnings = w i; options = options_are i; gages = gages_are i; subs = subs_are i; nodes = nodes_are i; links = links_are i; curves = []; series = []; patterns = []; inflows = inflows_are i; dry = []; rules = [] }
+      λ i. record { title = t i; warnings = w i; options = options_are i; gages = gages_are i; subs = subs_are i; nodes = nodes_are i; links = links_are i; curves = c1 i; series = c2 i; patterns = c3 i; inflows = inflows_are i; dry = c4 i; rules = c5 i }

@@ -68,7 +68,7 @@ use Rattle.inp_reader.proofs.NamedLemmas.{AllBegin, BeginsWithName, as_many, def
 use Rattle.inp_reader.proofs.PlacedLemmas.{all_placed}
 
 -- ---- the lines of each kind begin with a name
-rest_of : {A : Type 0} → List A → List A
+abbrev rest_of : {A : Type 0} → List A → List A
 rest_of [] = []
 rest_of (x ∷ xs) = xs
 

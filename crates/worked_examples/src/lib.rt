@@ -14,5 +14,3 @@ mod reaches;
 mod refusals;
 #[cfg(test)]
 mod runs;
-#[cfg(test)]
-mod times;

@@ -20,8 +20,9 @@ returns-clause-project c none =
     let inflows = c.in_ok-of_inflows.ensures.inflows ∙ ap (λ l. l ++ inflows_of c.in_ok-options.options.units (numbers_of c.in_ok-known.known.nodes) c.args.lines.now) c.new-inflows.ensures in
     subst (Means c.args.lines.now) (sym (project_is c.args.lines.now c.in_ok-options.options c.in_ok-known.known c.in_ok-options.ensures.options c.in_ok-known.ensures
     c.in_ok-title.title c.in_ok-options.warnings c.in_ok-surface.surface.gages c.in_ok-surface.surface.subs c.in_ok-network.network.nodes c.in_ok-network.network.links
-    c.read_inflows.new.inflows c.in_ok-title.ensures c.in_ok-options.ensures.warnings
-    c.in_ok-surface.ensures.gages c.in_ok-surface.ensures.subs c.in_ok-network.ensures.nodes c.in_ok-network.ensures.links inflows))
+    c.new.result c.new-2.result c.new-3.result c.read_inflows.new.inflows c.new-4.result c.new-5.result c.in_ok-title.ensures c.in_ok-options.ensures.warnings
+    c.in_ok-surface.ensures.gages c.in_ok-surface.ensures.subs c.in_ok-network.ensures.nodes c.in_ok-network.ensures.links inflows
+    c.new.ensures c.new-2.ensures c.new-3.ensures c.new-4.ensures c.new-5.ensures))
     (given_means c.args.lines.now none)
 
 pub returns-clause-sound : goal.returns-clause-sound
