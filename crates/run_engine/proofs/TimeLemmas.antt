@@ -106,6 +106,12 @@ module _ {options : Options} (o : AreRunOptions options) where
           even = even_min (wanted_of options least) rest (wanted_even least) (even_rest (duration_of options) moment o.duration_even m.even);
         }
 
+    rest_most : (d : ℤ) → d ≤ℤ pos 316_224_000_000 → pos 0 ≤ℤ moment → moment ≤ℤ d → IsBetween (pos 0) (d -ℤ moment) (pos 316_224_000_000)
+    rest_most d most from to = record { from = omega (arith, ints, to); to = omega (arith, ints, most, from) }
+
+    pub rest_fits : FitsSigned w64 (duration_of options -ℤ moment)
+    rest_fits = fits64 (within_between (rest_most (duration_of options) o.duration.to m.between.from m.between.to)) tt
+
     no_later : (a d : ℤ) → (moment +ℤ int_min a (d -ℤ moment)) ≤ℤ d
     no_later a d = omega (arith, ints, clamps)
 
@@ -121,6 +127,12 @@ module _ {options : Options} (o : AreRunOptions options) where
       between = record { from = no_earlier (length_of options moment least) m.between.from length_in.least; to = below_end };
       even = even_sum moment (length_of options moment least) m.even length_in.even;
     }
+
+    all_most : {z d : ℤ} → IsBetween (pos 0) z d → d ≤ℤ pos 316_224_000_000 → IsBetween (pos 0) z (pos 316_224_000_000)
+    all_most h most = record { from = h.from; to = omega (arith, ints, h.to, most) }
+
+    pub finish_fits : FitsSigned w64 (moment +ℤ length_of options moment least)
+    finish_fits = fits64 (within_between (all_most finish_in.between o.duration.to)) tt
 
     pub step_in : IsRunStep options (moment +ℤ length_of options moment least) (length_of options moment least)
     step_in = record { finish_in = finish_in; length_in = length_in }

@@ -2,6 +2,7 @@ use Rattle.std.proofs.Common.{◌∙◌, length, pos, ap, refl, subst, sym, arit
 use Rattle.std.proofs.lemmas.List.{length-replicate}
 use Rattle.continuity.specs.Run.{Running}
 use Rattle.link_eval.specs.Good.{IsGood}
+use Rattle.trial_model.proofs.TrialLemmas.{written_whole}
 use Rattle.run_engine.specs.Results.{account_at}
 use Rattle.run_engine.specs.States.{project_law}
 use Rattle.run_engine.proofs.KeptLemmas.{kept_at, opening_at, opening_floods}
@@ -34,7 +35,7 @@ invariant_of-result c =
       room = c.in_ok-before.ensures.fits (project_law project)
           (law_nodes project ∙ sym (ap length c.as_slice.ensures))
           (law_links project ∙ sym (ap length c.as_slice-2.ensures));
-      lateral_room = c.in_ok-nets.ensures.places;
+      lateral_room = ap length (written_whole _ _ (c.open_state.auto.laterals ∙ ap length c.as_mut_slice.ensures.value)) ∙ c.in_ok-nets.ensures.places;
       flood_room = ap length zeros ∙ length-replicate (length project.nodes) (pos 0);
       summed = c.in_ok-sums.ensures;
       totalled = record { steps = ap (λ (running : Running). running.steps) c.new.ensures.value; total = c.new.ensures.total (account_at project) };

@@ -1,8 +1,8 @@
-use Rattle.std.proofs.Common.{rules, ◌≡◌, ◌∙◌, ◌+◌, ◌*◌, ◌/◌, ◌<◌, ◌^◌, ℕ, ℤ, pos, ap, subst, sym, arith, FitsSigned, w64}
+use Rattle.std.proofs.Common.{rules, ◌≡◌, ◌∙◌, ◌+◌, ◌*◌, ◌/◌, ◌<◌, ◌^◌, ℕ, ℤ, pos, unsigned_abs, ap, subst, sym, arith, FitsSigned, w64}
 use Rattle.std.specs.Int.{int_max, int_min}
 use Rattle.std.proofs.lemmas.Int.{to_z-of_z, to_z_pos}
 use Rattle.fixed_num.specs.Ranges.{IsBetween, IsEven}
-use Rattle.run_engine.specs.Times.{shortest_of}
+use Rattle.run_engine.specs.Times.{duration_of, shortest_of}
 use Rattle.run_engine.proofs.TimeLemmas.{shortest_even, shortest_in}
 use Rattle.run_engine.proofs.times.shortest.Goals as goal
 
@@ -16,7 +16,8 @@ returns-clause-value c =
     let n = c.unsigned_abs.result in
     let few : 2 * ((n + 99_999_999) / 100_000_000) < 2 ^ 63 = omega (arith, c.unsigned_abs.ensures.bound) in
     let share = to_z_pos w64 (2 * ((n + 99_999_999) / 100_000_000)) few in
-    let days = simp (to_z-of_z, lasts, c.duration.ensures) at c.unsigned_abs.ensures.value in
+    let days : n ≡ unsigned_abs (duration_of c.args.options.now) =
+    c.unsigned_abs.ensures.value ∙ ap (λ (z : ℤ). unsigned_abs z) (to_z-of_z w64 _ lasts ∙ c.duration.ensures) in
     let low = simp (to_z-of_z, most, step) at c.min.ensures.value in
     let high = simp (share) at c.max.ensures.value in
     to_z-of_z w64 _ least ∙ low

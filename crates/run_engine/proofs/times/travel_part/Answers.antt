@@ -1,4 +1,4 @@
-use Rattle.std.proofs.Common.{rules, ◌≡◌, ◌∙◌, ◌*◌, ◌/◌, ◌<◌, ◌^◌, ◌*ℤ◌, ℕ, ℤ, pos, ap, subst, sym, arith, FitsSigned, w64}
+use Rattle.std.proofs.Common.{rules, ◌≡◌, ◌∙◌, ◌*◌, ◌/◌, ◌<◌, ◌^◌, ◌*ℤ◌, ℕ, ℤ, pos, unsigned_abs, ap, subst, sym, arith, FitsSigned, w64, to_z, of_z}
 use Rattle.std.specs.Int.{int_max, int_min}
 use Rattle.std.proofs.lemmas.Int.{to_z-of_z, to_z_pos}
 use Rattle.fixed_num.specs.Ranges.{cut_of, IsBetween, IsEven}
@@ -20,12 +20,17 @@ returns-clause-value c =
     let part : FitsSigned w64 c.args.options.now.variable6 = search rules in
     let short : FitsSigned w64 c.shortest.result = search rules in
     let product = travel_fits c.requires.options c.requires.least in
-    let n = c.unsigned_abs.result in
-    let few : 2 * (n / 2_000_000) < 2 ^ 63 = omega (arith, c.unsigned_abs.ensures.bound) in
+    let n = c.unsigned_abs-half.result in
+    let few : 2 * (n / 2_000_000) < 2 ^ 63 = omega (arith, c.unsigned_abs-half.ensures.bound) in
     let half = to_z_pos w64 (2 * (n / 2_000_000)) few in
-    let travel = simp (to_z-of_z, part, c.ranges.least, product) at c.unsigned_abs.ensures.value in
+    let travel : n ≡ unsigned_abs (c.args.options.now.variable6 *ℤ c.args.least) =
+    simp (to_z-of_z, part, c.ranges.least, product) at c.unsigned_abs-half.ensures.value in
     let low = simp (to_z-of_z, most, step) at c.min.ensures.value in
-    let high = simp (to_z-of_z, half, short, c.shortest.ensures.value) at c.max.ensures.value in
+    let shortest = to_z-of_z w64 _ short ∙ c.shortest.ensures.value in
+    let high : c.max.result ≡ int_max (pos (2 * (n / 2_000_000))) (shortest_of c.args.options.now) =
+    c.max.ensures.value
+    ∙ ap (λ (z : ℤ). int_max z (to_z w64 (of_z w64 c.shortest.result))) half
+    ∙ ap (λ (z : ℤ). int_max (pos (2 * (n / 2_000_000))) z) shortest in
     to_z-of_z w64 _ least ∙ low
     ∙ ap (λ (z : ℤ). int_min z c.args.options.now.step_ms) (high ∙ ap (λ (m : ℕ). int_max (pos (2 * (m / 2_000_000))) (shortest_of c.args.options.now)) travel)
 
