@@ -26,7 +26,7 @@ use Rattle.phase_law.specs.declared.values.LinkFixed.{LinkFixed}
 use Rattle.phase_law.specs.declared.values.NodeFixed.{NodeFixed}
 use Rattle.time_series.specs.LateralFlow.{lateral_of}
 use Rattle.trial_model.specs.declared.nets.Nets.{Nets}
-use Rattle.trial_model.specs.Fits.{Fits, FlowsFit}
+use Rattle.trial_model.specs.Fits.{Fits, FlowsFit, node_fixed_at}
 use Rattle.fixed_num.specs.Lists.{number, list_of}
 use Rattle.trial_model.specs.Start.{no_link, no_node, resting}
 use Rattle.trial_model.specs.Trial.{inflow_of, outflow_of, SumsOf}
@@ -236,6 +236,17 @@ opened_outflows project {h} {flows} same e =
     ap (λ (l : Law). list_of (λ n. pos (outflow_of l (number flows) n)) l.nodes) (ap law_of same)
     ∙ ap (λ (xs : List ℤ). list_of (λ n. pos (outflow_of law (number xs) n)) law.nodes) flows_are
     ∙ listed_outflows law flow ∙ ap (list_of (opening_outflow project)) (law_nodes project)
+
+-- what a node begins with, of the lists of all
+pub fixed_at : (project : Project) {nodes : List NodeFixed} (n : ℕ) → n < length project.nodes → nodes ≡ list_of (opening_node project) (length project.nodes) → node_fixed_at nodes n ≡ opening_node project n
+fixed_at project n inside is =
+    ap (λ (xs : List NodeFixed). node_fixed_at xs n) is ∙ listed (opening_node project) (length project.nodes) n no_node inside
+
+pub inflow_at : (project : Project) {inflows : List ℤ} (n : ℕ) → n < length project.nodes → inflows ≡ list_of (opening_inflow project) (length project.nodes) → number inflows n ≡ opening_inflow project n
+inflow_at project n inside is = ap (λ (xs : List ℤ). number xs n) is ∙ listed (opening_inflow project) (length project.nodes) n (pos 0) inside
+
+pub outflow_at : (project : Project) {outflows : List ℤ} (n : ℕ) → n < length project.nodes → outflows ≡ list_of (opening_outflow project) (length project.nodes) → number outflows n ≡ opening_outflow project n
+outflow_at project n inside is = ap (λ (xs : List ℤ). number xs n) is ∙ listed (opening_outflow project) (length project.nodes) n (pos 0) inside
 
 -- what a node begins with, from the lists of it, in the law of equal hydraulics
 module _ (project : Project) (h : Hydraulics) (same : h ≡ hydraulics_of project) (good : IsGood h) (r : IsReady project) (n : ℕ) (inside : n < length project.nodes) where
