@@ -118,7 +118,13 @@ impl Run {
         ensures cause { HasCause (W.faults rpt.old) (W.faults rpt.new) result }
     {
         let total = self.kept.total.total();
-        put_report(rpt, &self.project, &total, &self.kept.sums, &self.kept.counts)
+        put_report(
+            rpt,
+            &self.project,
+            &total,
+            &self.kept.sums,
+            &self.kept.counts,
+        )
     }
 
     /// The account of the steps so far, in mm³. It balances.
