@@ -9,8 +9,6 @@ use Rattle.link_eval.specs.Hydraulics.{hydraulics_of}
 use Rattle.link_eval.specs.declared.hydraulics.Hydraulics.{Hydraulics}
 use Rattle.net_types.specs.declared.account.StepAccount.{StepAccount}
 use Rattle.net_types.specs.declared.project.Project.{Project}
-use Rattle.report_writer.specs.declared.counts.RunCounts.{RunCounts}
-use Rattle.summaries.specs.Figures.{Figures}
 use Rattle.trial_model.specs.Fits.{Fits}
 use Rattle.fixed_num.specs.Lists.{number}
 use Rattle.trial_model.specs.Trial.{SumsOf}

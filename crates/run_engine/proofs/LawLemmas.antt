@@ -1,8 +1,7 @@
 -- The law of a project: its counts, its head limit and what follows for its links and nodes.
-use Rattle.std.proofs.Common.{◌≡◌, ℕ, ◌*◌, ◌^◌, ◌<◌, ℤ, length, subst, arith}
+use Rattle.std.proofs.Common.{◌≡◌, ℕ, ◌<◌, length, subst, arith}
 use Rattle.std.proofs.lemmas.List.{length-map}
 use Rattle.std.proofs.lemmas.List.FromFn.{get_or-map-range_with_len, length-map-range_with_len}
-use Rattle.fixed_num.specs.Ranges.{IsHead}
 use Rattle.link_eval.specs.Good.{IsGood}
 use Rattle.link_eval.specs.LawGood.{law_good}
 use Rattle.link_eval.specs.declared.hydraulics.Hydraulics.{Hydraulics}
@@ -10,7 +9,6 @@ use Rattle.link_eval.specs.Hydraulics.{hydraulics_of, law_of, link_law_of, no_no
 use Rattle.net_types.specs.declared.project.Project.{Project}
 use Rattle.node_update.specs.NodeLaws.{node_law_of}
 use Rattle.phase_law.specs.Laws.{IsLaw}
-use Rattle.phase_law.specs.Ranges.{HeadInRange}
 use Rattle.run_engine.specs.States.{project_law}
 
 -- as many nodes and links as the project has

@@ -7,7 +7,7 @@ use Rattle.std.proofs.lemmas.List.Elements.{All-get_or}
 use Rattle.std.proofs.lemmas.List.FromFn.{length-map-range_with_len}
 use Rattle.fixed_num.specs.Ranges.{IsFlow, IsStepLength, IsHead, IsElevation, IsDepth}
 use Rattle.fixed_num.proofs.Bounds.{le_number, within_add, within_between, within_cut}
-use Rattle.fixed_num.proofs.Bounds.{within_max, within_minus, within_number, within_up}
+use Rattle.fixed_num.proofs.Bounds.{within_minus, within_number, within_up}
 use Rattle.link_eval.specs.Good.{IsGood}
 use Rattle.link_eval.specs.declared.hydraulics.Hydraulics.{Hydraulics}
 use Rattle.link_eval.specs.Hydraulics.{hydraulics_of, law_of}

@@ -1,13 +1,11 @@
 -- What a project that can be run has.
-use Rattle.std.proofs.Common.{ℕ, ◌%◌, ℤ, pos, ◌+ℤ◌, ◌-ℤ◌, ◌≤ℤ◌, ◌<ℤ◌, ◌≡◌, ◌<◌, length, unsigned_abs, inl, inr, arith}
-use Rattle.std.specs.List.{All}
+use Rattle.std.proofs.Common.{ℕ, ℤ, pos, ◌+ℤ◌, ◌-ℤ◌, ◌≤ℤ◌, ◌<ℤ◌, ◌<◌, length, inl, inr, arith}
 use Rattle.std.proofs.lemmas.Int.{ints}
 use Rattle.std.proofs.lemmas.List.Elements.{All-get_or}
-use Rattle.fixed_num.specs.Ranges.{IsBetween, IsEven, IsMoment}
+use Rattle.fixed_num.specs.Ranges.{IsEven, IsMoment}
 use Rattle.calendar_steps.specs.Moment.{IsCalendarMoment}
 use Rattle.net_types.specs.Ranges.{NodeInRange}
 use Rattle.net_types.specs.Records.{no_node, node_at}
-use Rattle.net_types.specs.declared.options.Options.{Options}
 use Rattle.net_types.specs.declared.project.Project.{Project}
 use Rattle.project_check.proofs.LawLemmas.{faultless_good}
 use Rattle.report_writer.specs.DateTexts.{HasCalendarDates}

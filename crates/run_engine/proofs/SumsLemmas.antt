@@ -1,17 +1,16 @@
 -- The summaries of a run: of no state, and what they are of all states so far.
-use Rattle.std.proofs.Common.{◌≡◌, ◌∙◌, ℕ, zero, suc, ◌+◌, ◌*◌, ◌^◌, ◌<◌, List, length}
-use Rattle.std.proofs.Common.{replicate, ℤ, pos, refl, sym, ap, inl, inr, arith}
+use Rattle.std.proofs.Common.{◌≡◌, ◌∙◌, ℕ, zero, suc, ◌+◌, ◌<◌, List, length}
+use Rattle.std.proofs.Common.{ℤ, pos, refl, ap, inl, inr, arith}
 use Rattle.std.proofs.lemmas.Bool.{cases_lt}
 use Rattle.std.proofs.lemmas.Int.{ints}
-use Rattle.std.proofs.lemmas.List.{length-map, length-replicate, get_or-map, get_or-replicate, get_or_past}
+use Rattle.std.proofs.lemmas.List.{length-map, length-replicate, get_or-map, get_or_past}
 use Rattle.std.proofs.lemmas.List.FromFn.{fill_by_all, get_or-map-range_with_len, length-map-range_with_len}
 use Rattle.fixed_num.specs.Ranges.{IsHead, IsFlow}
 use Rattle.net_types.specs.declared.network.Node.{Node}
 use Rattle.net_types.specs.declared.project.Project.{Project}
 use Rattle.net_types.specs.Records.{node_at, no_node}
-use Rattle.summaries.specs.Figures.{Figures, AreFigures, AreSummaries, inverts_of}
-use Rattle.summaries.specs.Figures.{new_figures, node_summary, link_summary}
-use Rattle.summaries.specs.Peaks.{peak_of}
+use Rattle.summaries.specs.Figures.{Figures, AreFigures, inverts_of}
+use Rattle.summaries.specs.Figures.{new_figures, node_summary}
 use Rattle.summaries.specs.Steps.{no_node_summary, no_link_summary}
 use Rattle.trial_model.specs.Fits.{FlowsFit, HeadsFit}
 use Rattle.fixed_num.specs.Lists.{number, list_of}

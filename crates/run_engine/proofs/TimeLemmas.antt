@@ -1,11 +1,10 @@
 -- The steps of a run in time: their lengths and moments.
-use Rattle.std.proofs.Common.{◌≡◌, ℕ, ◌+◌, ◌*◌, ◌/◌, ◌%◌, ◌≤◌, ℤ, pos, ◌+ℤ◌, ◌-ℤ◌, ◌*ℤ◌, ◌≤ℤ◌, ◌<ℤ◌}
-use Rattle.std.proofs.Common.{Bool, true, false, if◌then◌else◌, unsigned_abs, refl, subst, sym, arith, FitsSigned, w64}
+use Rattle.std.proofs.Common.{◌≡◌, ℕ, ◌+◌, ◌*◌, ◌/◌, ℤ, pos, ◌+ℤ◌, ◌-ℤ◌, ◌*ℤ◌, ◌≤ℤ◌}
+use Rattle.std.proofs.Common.{Bool, true, false, if◌then◌else◌, unsigned_abs, refl, arith, FitsSigned, w64}
 use Rattle.std.specs.Int.{int_min, int_max}
 use Rattle.std.specs.Ordering.{int_eq}
 use Rattle.std.proofs.lemmas.Int.{ints, clamps}
-use Rattle.std.proofs.lemmas.Nat.{div_below}
-use Rattle.fixed_num.specs.Ranges.{cut_of, IsBetween, IsEven, IsWithin, IsStepLength}
+use Rattle.fixed_num.specs.Ranges.{cut_of, IsBetween, IsEven, IsStepLength}
 use Rattle.fixed_num.proofs.Bounds.{within_mul, within_between, fits64}
 use Rattle.net_types.specs.declared.options.Options.{Options}
 use Rattle.run_engine.specs.Times.{AreRunOptions, IsRunStep, IsRunTime, duration_of}

@@ -1,4 +1,4 @@
-use Rattle.std.proofs.Common.{rules, ◌∙◌, ◌+◌, ℕ, FitsSigned, w64, sym, ap, refl}
+use Rattle.std.proofs.Common.{◌∙◌, ◌+◌, ℕ, sym, ap, refl}
 use Rattle.std.proofs.lemmas.Int.{to_z-of_z}
 use Rattle.run_engine.specs.Results.{account_at}
 use Rattle.run_engine.proofs.KeptLemmas.{account_here, states_step}

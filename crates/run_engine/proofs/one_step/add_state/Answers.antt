@@ -1,4 +1,4 @@
-use Rattle.std.proofs.Common.{rules, ◌∙◌, ◌+◌, ℕ, FitsSigned, w64, length, sym, ap}
+use Rattle.std.proofs.Common.{◌∙◌, ◌+◌, ℕ, length, sym, ap}
 use Rattle.std.proofs.lemmas.Int.{to_z-of_z}
 use Rattle.link_eval.specs.Hydraulics.{hydraulics_of}
 use Rattle.run_engine.specs.Results.{floods_at}

@@ -1,4 +1,4 @@
-use Rattle.std.proofs.Common.{rules, ◌∙◌, ◌+◌, ℕ, length, ap, subst, sym, FitsSigned, w64}
+use Rattle.std.proofs.Common.{rules, ◌∙◌, ◌+◌, ℕ, length, ap, subst, sym, FitsSigned, w64, to_z, of_z}
 use Rattle.std.proofs.lemmas.Int.{to_z-of_z}
 use Rattle.trial_model.proofs.TrialLemmas.{written_whole}
 use Rattle.trial_model.specs.Fits.{Fits}
@@ -37,13 +37,16 @@ returns-clause-kept c =
     let finish : FitsSigned w64 c.next_span-span.result.finish = search rules in
     let e = simp (to_z-of_z, moment, least) at c.next_span-span.ensures.finish in
     let range = c.next_span-span.ensures.range.finish_in in
+    let clock : IsMomentAt project (c.args.kept.now.counts.steps + 1) c.next_span-span.result.finish = clock_next kept e range c.requires.going c.requires.few in
     let steps = sym c.add_counts.ensures.steps in
     let laterals = written_whole _ _ (c.step_on-end.auto.laterals ∙ ap length c.as_mut_slice.ensures.value) in
     let floods = written_whole _ _ (c.add_floods.auto.floods ∙ ap length c.as_mut_slice-floods.ensures.value) in
     record {
       ready = kept.ready;
       law = kept.law;
-      clock = subst (λ (k : ℕ). IsMomentAt project k _) steps (simp (to_z-of_z, finish) (clock_next kept e range c.requires.going c.requires.few));
+      clock =
+          subst (λ (k : ℕ). IsMomentAt project k (to_z w64 (of_z w64 c.next_span-span.result.finish))) steps
+          (subst (IsMomentAt project (c.args.kept.now.counts.steps + 1)) (sym (to_z-of_z w64 c.next_span-span.result.finish finish)) clock);
       now = subst (λ (k : ℕ). IsStateAt project k c.step_on-end.new.nets) steps c.step_on-end.ensures.next;
       room = subst (Fits (project_law project)) (sym c.step_on-end.ensures.before) kept.now.fits;
       lateral_room = ap length laterals ∙ c.step_on-end.ensures.places;

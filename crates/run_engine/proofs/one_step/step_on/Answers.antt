@@ -1,4 +1,3 @@
-use Rattle.std.proofs.Common.{rules}
 use Rattle.std.proofs.lemmas.Int.{to_z-of_z}
 use Rattle.run_engine.proofs.KeptLemmas.{end_here, state_next}
 use Rattle.run_engine.proofs.RunLemmas.{run_moment}

@@ -1,5 +1,4 @@
-use Rattle.std.proofs.Common.{◌≡◌, List, length, ap, ◌∙◌}
-use Rattle.fixed_num.specs.Lists.{list_of}
+use Rattle.std.proofs.Common.{length, ap, ◌∙◌}
 use Rattle.trial_model.specs.declared.nets.Nets.{Nets}
 use Rattle.trial_model.proofs.TrialLemmas.{written_whole}
 use Rattle.run_engine.proofs.OpeningLemmas.{flows_at, heads_length, nodes_at, opened_inflows, opened_outflows, opened_with, opening_flows_fit}

@@ -1,5 +1,5 @@
 use Rattle.std.proofs.Common.{arith, rules, ◌∙◌, refl, FitsSigned, w64}
-use Rattle.std.proofs.lemmas.Int.{ints, to_z-of_z}
+use Rattle.std.proofs.lemmas.Int.{to_z-of_z}
 use Rattle.fixed_num.proofs.Bounds.{fits64}
 use Rattle.trial_model.specs.Fits.{node_fixed_at}
 use Rattle.fixed_num.specs.Lists.{number}

@@ -1,4 +1,4 @@
-use Rattle.std.proofs.Common.{◌∙◌, length, pos, ap, refl, subst, sym, arith}
+use Rattle.std.proofs.Common.{◌∙◌, length, pos, ap, refl, subst, sym}
 use Rattle.std.proofs.lemmas.List.{length-replicate}
 use Rattle.continuity.specs.Run.{Running}
 use Rattle.link_eval.specs.Good.{IsGood}

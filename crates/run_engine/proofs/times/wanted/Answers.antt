@@ -1,4 +1,4 @@
-use Rattle.std.proofs.Common.{rules, ◌∙◌, sym, ap, FitsSigned, w64}
+use Rattle.std.proofs.Common.{rules, ◌∙◌, sym, FitsSigned, w64}
 use Rattle.std.proofs.lemmas.Int.{to_z-of_z}
 use Rattle.run_engine.proofs.TimeLemmas.{wanted_constant, wanted_variable}
 use Rattle.run_engine.proofs.times.wanted.Goals as goal
