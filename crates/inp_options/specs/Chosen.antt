@@ -49,6 +49,14 @@ abbrev pub step_ms_in : Setting → List ℤ
 step_ms_in (setting.RoutingStep value) = value ∷ []
 step_ms_in _ = []
 
+abbrev pub variable6_in : Setting → List ℤ
+variable6_in (setting.VariableStep value) = value ∷ []
+variable6_in _ = []
+
+abbrev pub ponding_in : Setting → List Bool
+ponding_in (setting.Ponding value) = value ∷ []
+ponding_in _ = []
+
 abbrev pub damping_in : Setting → List Damping
 damping_in (setting.Inertia value) = value ∷ []
 damping_in _ = []
@@ -89,6 +97,8 @@ latest_after latest given = record {
   report_ms = last_or latest.report_ms (flat_map report_ms_in given);
   wet_ms = last_or latest.wet_ms (flat_map wet_ms_in given);
   step_ms = last_or latest.step_ms (flat_map step_ms_in given);
+  variable6 = last_or latest.variable6 (flat_map variable6_in given);
+  ponding = last_or latest.ponding (flat_map ponding_in given);
   damping = last_or latest.damping (flat_map damping_in given);
   limiter = last_or latest.limiter (flat_map limiter_in given);
   min_area = last_or latest.min_area (flat_map min_area_in given);
@@ -110,6 +120,8 @@ nothing = record {
   report_ms = None;
   wet_ms = None;
   step_ms = None;
+  variable6 = None;
+  ponding = None;
   damping = None;
   limiter = None;
   min_area = None;

@@ -2,7 +2,7 @@
 use Rattle.std.specs.Prelude.{IfSome}
 use Rattle.inp_options.specs.declared.chosen.Latest.{Latest}
 use Rattle.fixed_num.specs.Ranges.{IsEven}
-use Rattle.inp_options.specs.Ranges.{IsDay, IsTime, IsReportStep, IsWetStep, IsRoutingStep, IsMinArea, IsTolerance, IsTrials}
+use Rattle.inp_options.specs.Ranges.{IsDay, IsTime, IsReportStep, IsWetStep, IsRoutingStep, IsVariableStep, IsMinArea, IsTolerance, IsTrials}
 
 -- each value that is set lies in its range; times of the day and the routing step are even numbers of ms
 pub record AreLatest (latest : Latest) : Type 0 where
@@ -16,6 +16,7 @@ pub record AreLatest (latest : Latest) : Type 0 where
   pub wet_ms_in : IfSome latest.wet_ms IsWetStep
   pub step_ms_in : IfSome latest.step_ms IsRoutingStep
   pub step_ms_even : IfSome latest.step_ms IsEven
+  pub variable6_in : IfSome latest.variable6 IsVariableStep
   pub min_area_in : IfSome latest.min_area IsMinArea
   pub tolerance_in : IfSome latest.tolerance IsTolerance
   pub max_trials_in : IfSome latest.max_trials IsTrials

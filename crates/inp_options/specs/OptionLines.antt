@@ -26,7 +26,7 @@ use Rattle.inp_options.specs.declared.setting.Setting.{Setting}
 use Rattle.inp_options.specs.declared.setting.Setting.TheVariants as setting
 use Rattle.inp_options.specs.Keywords.{units_named, infiltration_named, damping_named, limiter_named, method_named, offsets_named, is_dynamic_wave}
 use Rattle.inp_options.specs.OptionNames.{option_named}
-use Rattle.inp_options.specs.Values.{within, is_zero, area_of, tolerance_of, trials_of, built_of, off_of}
+use Rattle.inp_options.specs.Values.{within, is_zero, area_of, tolerance_of, trials_of, variable_of, built_of, off_of}
 
 -- a value of the second token as a setting, or the fault of a text that is none
 abbrev pub set_by : {A : Type 0} → (A → Setting) → Option A → ℕ → Result Setting Fault
@@ -44,6 +44,8 @@ setting_by units option.EndTime text = set_by setting.EndTime (time_of_day_of te
 setting_by units option.ReportStep text = set_by setting.ReportStep (within (pos 1_000) (pos 86_400_000) (clock_of text)) 213
 setting_by units option.WetStep text = set_by setting.WetStep (within (pos 1_000) (pos 3_600_000) (clock_of text)) 213
 setting_by units option.RoutingStep text = set_by setting.RoutingStep (within (pos 10) (pos 3_600_000) (seconds_of text)) 213
+setting_by units option.VariableStep text = set_by setting.VariableStep (variable_of text) 211
+setting_by units option.AllowPonding text = set_by setting.Ponding (switch_of text) 205
 setting_by units option.InertialDamping text = set_by setting.Inertia (damping_named text) 205
 setting_by units option.NormalFlowLimited text = set_by setting.NormalFlow (limiter_named text) 205
 setting_by units option.MinSurfArea text = set_by setting.MinArea (area_of units text) 211

@@ -18,14 +18,14 @@ known_options =
     (codes "REPORT_STEP", option.ReportStep) ∷
     (codes "WET_STEP", option.WetStep) ∷
     (codes "ROUTING_STEP", option.RoutingStep) ∷
-    (codes "ALLOW_PONDING", option.No) ∷
+    (codes "ALLOW_PONDING", option.AllowPonding) ∷
     (codes "INERTIAL_DAMPING", option.InertialDamping) ∷
     (codes "NORMAL_FLOW_LIMITED", option.NormalFlowLimited) ∷
     (codes "MIN_SURFAREA", option.MinSurfArea) ∷
     (codes "HEAD_TOLERANCE", option.HeadTolerance) ∷
     (codes "MAX_TRIALS", option.MaxTrials) ∷
     (codes "THREADS", option.Threads) ∷
-    (codes "VARIABLE_STEP", option.Zero) ∷
+    (codes "VARIABLE_STEP", option.VariableStep) ∷
     (codes "LENGTHENING_STEP", option.Zero) ∷
     (codes "MIN_SLOPE", option.Zero) ∷
     (codes "SKIP_STEADY_STATE", option.No) ∷

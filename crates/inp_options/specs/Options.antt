@@ -23,9 +23,9 @@ start_by latest = moment_of (unwrap_or latest.start_date default_day) (unwrap_or
 abbrev pub finish_by : Latest → ℤ
 finish_by latest = moment_of (unwrap_or latest.end_date (unwrap_or latest.start_date default_day)) (unwrap_or latest.end_time (pos 0))
 
--- the options by what is set, with the default of each; ponding and variable steps aren't built
-unfoldable pub options_by : FlowUnits → Latest → Options
-options_by units latest = record {
+-- the options by what is set, with the default of each; but for ponding and variable steps
+unfoldable pub base_by : FlowUnits → Latest → Options
+base_by units latest = record {
   units = units;
   infil = unwrap_or latest.infil ModifiedHorton;
   start = start_by latest;
@@ -41,6 +41,13 @@ options_by units latest = record {
   tolerance = unwrap_or latest.tolerance (pos 1_524);
   max_trials = unwrap_or latest.max_trials 8;
   threads = unwrap_or latest.threads 1;
+}
+
+-- with these two as well
+unfoldable pub options_by : FlowUnits → Latest → Options
+options_by units latest = record (base_by units latest) {
+  variable6 = unwrap_or latest.variable6 (pos 0);
+  ponding = unwrap_or latest.ponding false;
 }
 
 -- the flow units under which the whole file is read: the last FLOW_UNITS without a fault, else CFS

@@ -28,6 +28,10 @@ IsWetStep ms = IsBetween (pos 1_000) ms (pos 3_600_000)
 abbrev pub IsRoutingStep : ℤ → Type 0
 IsRoutingStep ms = IsBetween (pos 10) ms (pos 3_600_000)
 
+-- a part of the travel time in millionths
+abbrev pub IsVariableStep : ℤ → Type 0
+IsVariableStep part6 = IsBetween (pos 0) part6 (pos 2_000_000)
+
 -- the least surface area of a node in mm², and the head tolerance in µm
 abbrev pub IsMinArea : ℤ → Type 0
 IsMinArea area = IsBetween (pos 10_000) area (pos (10 ^ 13))
@@ -44,6 +48,7 @@ IsInRange (setting.EndTime ms) = IsTime ms × IsEven ms
 IsInRange (setting.ReportStep ms) = IsReportStep ms
 IsInRange (setting.WetStep ms) = IsWetStep ms
 IsInRange (setting.RoutingStep ms) = IsRoutingStep ms × IsEven ms
+IsInRange (setting.VariableStep part6) = IsVariableStep part6
 IsInRange (setting.MinArea area) = IsMinArea area
 IsInRange (setting.Tolerance height) = IsTolerance height
 IsInRange (setting.MaxTrials n) = IsTrials n

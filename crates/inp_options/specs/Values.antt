@@ -1,10 +1,11 @@
 -- The values of options (User's Manual, section [OPTIONS]).
 use Rattle.std.specs.Prelude.{ℕ, ◌==◌, ◌^◌, Bool, true, false, not, cond, ◌&&◌, nat_lt, List, ℤ, pos, negsuc, ◌+ℤ◌, ◌*ℤ◌, int_le, Option, Some, None, Result, Ok, Err}
 use Rattle.net_types.specs.declared.options.FlowUnits.{FlowUnits}
+use Rattle.net_types.specs.declared.options.FlowUnits.TheVariants.{Cfs}
 use Rattle.fixed_num.specs.Decimal.{scaled_of}
 use Rattle.inp_lines.specs.declared.fault.Fault.{Fault}
 use Rattle.inp_values.specs.Units.{unit_for}
-use Rattle.inp_values.specs.declared.quantities.Quantity.TheVariants.{NodeArea, Depth}
+use Rattle.inp_values.specs.declared.quantities.Quantity.TheVariants.{NodeArea, Depth, Raw}
 use Rattle.inp_options.specs.declared.setting.Setting.{Setting}
 use Rattle.inp_options.specs.declared.setting.Setting.TheVariants as setting
 
@@ -30,6 +31,10 @@ zero_as default value = cond (is_zero value) (Some default) value
 -- MIN_SURFAREA: 0 stands for 1,167,420 mm²; other areas are 10,000 mm² or more
 unfoldable pub area_of : FlowUnits → List ℕ → Option ℤ
 area_of units text = within (pos 10_000) (pos (10 ^ 13)) (zero_as (pos 1_167_420) (scaled_of (unit_for units NodeArea) text))
+
+-- VARIABLE_STEP: a part of 0 to 2 in millionths
+unfoldable pub variable_of : List ℕ → Option ℤ
+variable_of text = within (pos 0) (pos 2_000_000) (scaled_of (unit_for Cfs Raw) text)
 
 -- HEAD_TOLERANCE: 0 stands for 1,524 µm
 unfoldable pub tolerance_of : FlowUnits → List ℕ → Option ℤ

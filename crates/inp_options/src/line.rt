@@ -11,7 +11,7 @@ use crate::keywords::{
 use crate::names::{OptionKind, option_named};
 use crate::setting::Setting;
 use crate::times::{clock_step, day, routing_step, time};
-use crate::values::{area, built, is_zero, off, raw, tolerance, trials};
+use crate::values::{area, built, is_zero, off, raw, tolerance, trials, variable_step};
 use inp_lines::{Fault, Line, Reading, SectionName, is_too_long, needed, too_few};
 use inp_values::{clock, whole, yes_no};
 use net_types::{FlowUnits, Text};
@@ -75,6 +75,8 @@ fn setting_by(units: FlowUnits, option: OptionKind, text: &[u8]) -> Result<Setti
         OptionKind::ReportStep => Ok(Setting::ReportStep(clock_step(text, 86_400_000)?)),
         OptionKind::WetStep => Ok(Setting::WetStep(clock_step(text, 3_600_000)?)),
         OptionKind::RoutingStep => Ok(Setting::RoutingStep(routing_step(text)?)),
+        OptionKind::VariableStep => Ok(Setting::VariableStep(variable_step(text)?)),
+        OptionKind::AllowPonding => Ok(Setting::Ponding(needed(yes_no(text), 205, 1)?)),
         OptionKind::InertialDamping => Ok(Setting::Inertia(needed(damping_named(text), 205, 1)?)),
         OptionKind::NormalFlowLimited => Ok(Setting::NormalFlow(needed(
             limiter_named(text),

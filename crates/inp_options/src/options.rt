@@ -6,7 +6,7 @@ ghost use Rattle.inp_lines.specs.Gather.{gather};
 ghost use Rattle.inp_lines.specs.Merge.{merged};
 ghost use Rattle.inp_options.specs.Latest.{AreLatest};
 ghost use Rattle.inp_options.specs.OptionLines.{option_fault};
-ghost use Rattle.inp_options.specs.Options.{options_by, options_of, units_of};
+ghost use Rattle.inp_options.specs.Options.{base_by, options_by, options_of, units_of};
 ghost use Rattle.inp_options.specs.Ranges.{IsTrials};
 ghost use Rattle.inp_options.specs.Warnings.{warnings_of};
 ghost use Rattle.net_types.specs.Ranges.{OptionsInRange};
@@ -59,6 +59,19 @@ fn units_in(lines: &[Line]) -> FlowUnits
 fn options_by(units: FlowUnits, latest: &Latest) -> Options
     requires { AreLatest latest.now }
     ensures value { result ≡ options_by units latest.now }
+    ensures range { OptionsInRange result }
+{
+    let mut options = base_by(units, latest);
+    options.variable6 = within_or(latest.variable6, 0);
+    options.ponding = latest.ponding.unwrap_or(false);
+    options
+}
+
+// The options but for ponding and variable steps.
+#[tactic(auto, unfolding(crate::specs::Options::base_by))]
+fn base_by(units: FlowUnits, latest: &Latest) -> Options
+    requires { AreLatest latest.now }
+    ensures value { result ≡ base_by units latest.now }
     ensures range { OptionsInRange result }
 {
     let first_day = within_or(latest.start_date, 11_688);

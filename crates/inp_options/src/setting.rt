@@ -2,7 +2,7 @@
 use net_types::{Damping, FlowUnits, InfilKind, Limiter};
 
 /// What an option line without a fault sets (User's Manual, section [OPTIONS]). Dates are days from 1970-01-01, times and
-/// steps ms, the surface area mm², the tolerance µm.
+/// steps ms, the surface area mm², the tolerance µm, the part of the travel time millionths.
 #[derive(Clone, Copy, Debug)]
 pub enum Setting {
     Units(FlowUnits),
@@ -14,6 +14,10 @@ pub enum Setting {
     ReportStep(i64),
     WetStep(i64),
     RoutingStep(i64),
+    /// The part of the shortest travel time that a step takes at most; 0 for steps of one length.
+    VariableStep(i64),
+    /// Whether water may stand above the junctions that have an area for it.
+    Ponding(bool),
     Inertia(Damping),
     NormalFlow(Limiter),
     MinArea(i64),

@@ -4,7 +4,8 @@ ghost use Rattle.fixed_num.specs.Decimal.{scaled_of};
 ghost use Rattle.fixed_num.specs.Ranges.{IsBetween, IsEven};
 ghost use Rattle.inp_lines.specs.Readings.{needed_of};
 ghost use Rattle.inp_options.specs.Ranges.{IsTrials};
-ghost use Rattle.inp_options.specs.Values.{area_of, built_of, is_zero, off_of, tolerance_of, trials_of, within, zero_as};
+ghost use Rattle.inp_options.specs.Values.{area_of, built_of, is_zero, off_of, tolerance_of, trials_of, variable_of, within};
+ghost use Rattle.inp_options.specs.Values.{zero_as};
 ghost use Rattle.inp_values.specs.Field.{whole_of};
 ghost use Rattle.inp_values.specs.Units.{unit_for};
 
@@ -50,6 +51,15 @@ pub(crate) fn area(units: FlowUnits, text: &[u8]) -> Result<i64, Fault>
 {
     let stored = scaled_decimal(text, &unit_of(units, Quantity::NodeArea));
     in_range(zero_as(1_167_420, stored), 10_000, 10_000_000_000_000, 211)
+}
+
+/// The part of the shortest travel time that a step takes at most, from 0 to 2.
+#[tactic(auto, unfolding(crate::specs::Values::variable_of))]
+pub(crate) fn variable_step(text: &[u8]) -> Result<i64, Fault>
+    ensures value { result ≡ needed_of (variable_of text.now) 211 1 }
+    ensures range { IfOk result (λ v. IsBetween (pos 0) v (pos 2_000_000)) }
+{
+    in_range(raw(text), 0, 2_000_000, 211)
 }
 
 /// The head tolerance: 0 stands for the default.
