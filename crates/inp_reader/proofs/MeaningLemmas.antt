@@ -22,7 +22,7 @@ use Rattle.inp_hydrology.specs.Subcatchments.{sub_fault, sub_forms, subs_of}
 use Rattle.inp_network.specs.Links.{link_fault, link_forms, links_of}
 use Rattle.inp_network.specs.Nodes.{node_fault, node_forms, node_names, nodes_of}
 use Rattle.inp_options.specs.OptionLines.{option_fault}
-use Rattle.inp_options.specs.Options.{units_of, options_of, options_by}
+use Rattle.inp_options.specs.Options.{units_of, options_of, options_by, base_by}
 use Rattle.inp_sections.specs.CrossSections.{section_fault, section_forms, sections_of, with_sections}
 use Rattle.inp_sections.specs.Losses.{loss_forms, losses_fault, losses_of, with_losses}
 use Rattle.inp_reader.specs.Known.{known_in, method_of}
@@ -183,5 +183,5 @@ pub means_some : (lines : List Line) → line_faults lines ≡ [] → (project :
 means_some lines none = (given_project lines, given_means lines none)
 
 pub options_have_units : (lines : List Line) → (options_of lines).units ≡ units_of lines
-unfolding options_of options_by
+unfolding options_of options_by base_by
 options_have_units lines = refl
