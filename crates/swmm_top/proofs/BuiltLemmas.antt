@@ -40,7 +40,7 @@ empty_told [] = ((λ h. refl), (λ e. refl))
 empty_told (x ∷ xs) = ((λ h. let never : ⊥ = cc in absurd never), (λ e. let never : ⊥ = cc in absurd never))
 
 -- neither control rules nor subcatchments
-HasBuiltSteps : Project → Type 0
+abbrev HasBuiltSteps : Project → Type 0
 HasBuiltSteps project = (project.rules ≡ []) × (project.subs ≡ [])
 
 steps_told : (project : Project) → Decides (are_built_steps project) (HasBuiltSteps project)

@@ -19,8 +19,7 @@ pub fn outcome_exists()
         → (given : Outcome) × IsOutcome command input hotstart given }
 {}
 
-/// The test of what is built tells exactly whether all is built that a run needs, and nothing else is there that a run
-/// would have to know.
+/// The test of what is built tells exactly whether all is built that a run needs.
 pub fn built_is_told()
     ensures { (project : ProjectOf) → Decides (is_built project) (IsBuilt project) }
 {}
