@@ -1,5 +1,5 @@
 use crate::{Read, read_project};
-use net_types::{LinkKind, Section, Shape};
+use net_types::{Section, Shape};
 use std::test::Fail;
 
 const ONE_REACH: &[u8] = b"[TITLE]
@@ -70,57 +70,6 @@ fn gives_faults_in_line_order(rt: HostRuntime) -> Result<(), Fail> {
                 assert_eq!(rt; (fault.line, fault.number), (*line, *number));
                 assert_eq!(rt; fault.token.as_slice(), *token);
             }
-        }
-    }
-    Ok(())
-}
-
-// A storage unit, a pump with a curve that no line defines, a weir, a cross-section and losses of a conduit.
-#[test]
-fn reads_all_of_a_network(rt: HostRuntime) -> Result<(), Fail> {
-    let input = b"[OPTIONS]
-FLOW_UNITS CMS
-[CONDUITS]
-C1 S1 O1 100 0.01 0.5 0
-[WEIRS]
-W1 S1 O1 TRANSVERSE 1 1.8
-[XSECTIONS]
-W1 RECT_OPEN 1 2
-C1 CIRCULAR 1 0 0 0 2
-[LOSSES]
-C1 0.5 1 0 YES
-[STORAGE]
-S1 10 3 0 FUNCTIONAL 0 0 100
-[OUTFALLS]
-O1 9 FREE
-";
-    match read_project(rt.alloc(), input)? {
-        Read::Refused(_) => assert!(rt; false),
-        Read::Accepted(project) => {
-            assert_eq!(rt; project.nodes.as_slice().len(), 2);
-            let links = project.links.as_slice();
-            assert_eq!(rt; links.len(), 2);
-            let pipe = Section {
-                shape: Shape::Circular,
-                full: 1_000_000,
-                barrels: 2,
-            };
-            assert_eq!(rt; links[0].section, Some(pipe));
-            assert_eq!(rt;
-                links[0].kind,
-                LinkKind::Conduit {
-                    length: 100_000_000,
-                    n6: 10_000,
-                    z1: 500_000,
-                    z2: 0,
-                    q0: 0,
-                    q_max: 0,
-                    entry6: 500_000,
-                    exit6: 1_000_000,
-                    avg6: 0,
-                    flap: true,
-                }
-            );
         }
     }
     Ok(())
