@@ -11,3 +11,4 @@ pub mod SumsLemmas
 pub mod KeptLemmas
 pub mod ReportLemmas
 pub mod RunLemmas
+pub mod RunoffLemmas

@@ -25,7 +25,6 @@ use Rattle.phase_law.specs.Law.{Law}
 use Rattle.phase_law.specs.Ranges.{HeadInRange, SumsInRange, LinkFixedInRange, NodeFixedInRange}
 use Rattle.phase_law.specs.declared.values.LinkFixed.{LinkFixed}
 use Rattle.phase_law.specs.declared.values.NodeFixed.{NodeFixed}
-use Rattle.time_series.specs.LateralFlow.{lateral_at}
 use Rattle.time_series.specs.Stages.{elevation_of, kind_stage, stage_at, stage_level}
 use Rattle.trial_model.specs.declared.nets.Nets.{Nets}
 use Rattle.trial_model.specs.Fits.{Fits, FlowsFit, node_fixed_at}
@@ -35,7 +34,7 @@ use Rattle.trial_model.specs.Trial.{inflow_of, outflow_of, SumsOf}
 use Rattle.trial_model.proofs.FlowLemmas.{flow_sums_most, listed_inflows, listed_outflows, listed_sums}
 use Rattle.trial_model.proofs.RangeLemmas.{listed}
 use Rattle.link_eval.specs.LawGood.{head_in as within_head, head_of_law as head_in}
-use Rattle.run_engine.specs.Amounts.{laterals_at}
+use Rattle.run_engine.specs.Laterals.{laterals_at, node_lateral}
 use Rattle.run_engine.specs.Ready.{IsReady}
 use Rattle.run_engine.specs.States.{kind_flow, kind_head, opening, opening_flow}
 use Rattle.run_engine.specs.States.{opening_head, opening_inflow, opening_level, opening_node, opening_outflow}
@@ -71,21 +70,22 @@ kind_flow_in (Pump curve on startup shutoff) h = within_up (within_number 0) tt
 kind_flow_in (Orifice bottom offset cd6 flap) h = within_up (within_number 0) tt
 kind_flow_in (Weir notch crest cd6 flap contractions) h = within_up (within_number 0) tt
 
-pub lateral_in : (project : Project) (n : ℕ) (moment : ℤ) → IsFlow (lateral_at project n moment)
+pub lateral_in : (project : Project) (n : ℕ) (moment : ℤ) → IsFlow (node_lateral project n moment)
+unfolding node_lateral
 lateral_in project n moment = record { within = (within_cut _ (le_number tt) (within_minus (10 ^ 12)) (within_number (10 ^ 12))).within }
 
 -- of the list of all
 pub laterals_number : (project : Project) (moment : ℤ) {laterals : List ℤ} (n : ℕ) → n < length project.nodes → laterals ≡ laterals_at project moment
-    → number laterals n ≡ lateral_at project n moment
+    → number laterals n ≡ node_lateral project n moment
 laterals_number project moment n inside is =
-    ap (λ (xs : List ℤ). number xs n) is ∙ listed (λ k. lateral_at project k moment) (length project.nodes) n (pos 0) inside
+    ap (λ (xs : List ℤ). number xs n) is ∙ listed (λ k. node_lateral project k moment) (length project.nodes) n (pos 0) inside
 
 pub laterals_in : (project : Project) (moment : ℤ) {laterals : List ℤ} (n : ℕ) → n < length project.nodes → laterals ≡ laterals_at project moment → IsFlow (number laterals n)
 laterals_in project moment n inside is = subst IsFlow (sym (laterals_number project moment n inside is)) (lateral_in project n moment)
 
 pub laterals_count : (project : Project) (moment : ℤ) {laterals : List ℤ} → laterals ≡ laterals_at project moment → length laterals ≡ length project.nodes
 laterals_count project moment is =
-    ap (λ (xs : List ℤ). length xs) is ∙ length-map-range_with_len (λ k. lateral_at project k moment) 0 (length project.nodes)
+    ap (λ (xs : List ℤ). length xs) is ∙ length-map-range_with_len (λ k. node_lateral project k moment) 0 (length project.nodes)
 
 -- ---- of nodes and links by their numbers
 module _ {project : Project} (r : IsReady project) where

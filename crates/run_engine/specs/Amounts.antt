@@ -3,9 +3,7 @@ use Rattle.std.specs.Prelude.{◌≡◌, ℕ, ◌*◌, ◌^◌, ◌<◌, ℤ, po
 use Rattle.fixed_num.specs.Ranges.{IsBetween, IsFlow}
 use Rattle.phase_law.specs.declared.values.NodeFixed.{NodeFixed}
 use Rattle.trial_model.specs.Fits.{node_fixed_at}
-use Rattle.fixed_num.specs.Lists.{number, list_of}
-use Rattle.net_types.specs.declared.project.Project.{Project}
-use Rattle.time_series.specs.LateralFlow.{lateral_at}
+use Rattle.fixed_num.specs.Lists.{number}
 
 -- so many numbers of 0 to 2·10^16 cm³/s
 pub record AreAmounts (count : ℕ) (list : List ℤ) : Type 0 where
@@ -16,7 +14,3 @@ pub record AreAmounts (count : ℕ) (list : List ℤ) : Type 0 where
 pub record HaveLaterals (count : ℕ) (nodes : List NodeFixed) : Type 0 where
   pub many : length nodes ≡ count
   pub each : (n : ℕ) → n < count → IsFlow (node_fixed_at nodes n).lateral
-
--- the lateral inflows of all nodes at a moment
-abbrev pub laterals_at : Project → (moment : ℤ) → List ℤ
-laterals_at project moment = list_of (λ n. lateral_at project n moment) (length project.nodes)

@@ -14,6 +14,7 @@ use Rattle.trial_model.specs.Trial.{SumsOf}
 use Rattle.trial_model.specs.declared.nets.Nets.{Nets}
 use Rattle.run_engine.specs.declared.kept.Kept.{Kept}
 use Rattle.run_engine.specs.Results.{account_at, counts_after, floods_at}
+use Rattle.run_engine.specs.Laterals.{IsRunoffAt}
 use Rattle.run_engine.specs.Ready.{IsReady}
 use Rattle.run_engine.specs.States.{moment_at, nets_at, project_law}
 use Rattle.run_engine.specs.Times.{goes_on, IsRunTime}
@@ -75,6 +76,7 @@ pub record IsKept (project : Project) (h : Hydraulics) (kept : Kept) : Type 0 wh
   pub now : IsStateAt project kept.counts.steps kept.nets
   pub room : Fits (project_law project) kept.before
   pub lateral_room : length kept.laterals ≡ length project.nodes
+  pub runoff : IsRunoffAt project kept.moment kept.runoff
   pub flood_room : length kept.floods ≡ length project.nodes
   pub summed : AreSumsOf project (kept.counts.steps + 1) kept.sums
   pub totalled : IsTotalAt project kept.counts.steps kept.total

@@ -1,4 +1,5 @@
 pub mod Times
+pub mod Laterals
 pub mod States
 pub mod Ready
 pub mod Amounts

@@ -20,8 +20,8 @@ use Rattle.trial_model.specs.Trial.{inflow_of, outflow_of}
 use Rattle.link_eval.specs.declared.hydraulics.Hydraulics.{Hydraulics}
 use Rattle.link_eval.specs.Hydraulics.{hydraulics_of, law_of, mid_area_at}
 use Rattle.net_types.specs.Records.{link_at, node_at as node_of}
-use Rattle.time_series.specs.LateralFlow.{lateral_at}
 use Rattle.time_series.specs.Stages.{stage_at}
+use Rattle.run_engine.specs.Laterals.{node_lateral}
 use Rattle.run_engine.specs.Times.{goes_on, length_of}
 
 -- the law of a project
@@ -44,7 +44,7 @@ abbrev pub opening_node : Project → ℕ → NodeFixed
 opening_node project n = record {
   h_old = pos 0;
   net_old = pos 0;
-  lateral = lateral_at project n (pos 0);
+  lateral = node_lateral project n (pos 0);
   stage = stage_at project n (pos 0);
   dt = pos 0;
 }
@@ -110,7 +110,7 @@ abbrev pub node_start : Project → (heads inflows outflows : List ℤ) → List
 node_start project heads inflows outflows nodes finish dt n = record {
   h_old = number heads n;
   net_old = (node_fixed_at nodes n).lateral +ℤ number inflows n -ℤ number outflows n;
-  lateral = lateral_at project n finish;
+  lateral = node_lateral project n finish;
   stage = stage_at project n finish;
   dt = dt;
 }

@@ -2,6 +2,7 @@
 use continuity::RunAccount;
 use net_types::List;
 use report_writer::RunCounts;
+use runoff_states::Runoff;
 use summaries::Summaries;
 use trial_model::Nets;
 
@@ -13,6 +14,7 @@ pub(crate) struct Kept {
     pub(crate) moment: i64,
     pub(crate) nets: Nets,
     pub(crate) before: Nets,
+    pub(crate) runoff: Runoff,
     pub(crate) laterals: List<i128>,
     pub(crate) floods: List<i128>,
     pub(crate) sums: Summaries,

@@ -13,6 +13,7 @@
 
 mod begin;
 mod kept;
+mod laterals;
 mod one_step;
 mod opening;
 mod output;

@@ -3,12 +3,14 @@ ghost use Rattle.std.specs.Prelude.{◌≡◌, ◌+◌, ◌<◌, ◌≤◌, leng
 ghost use Rattle.link_eval.specs.Hydraulics.{hydraulics_of};
 ghost use Rattle.trial_model.specs.Fits.{Fits};
 ghost use Rattle.run_engine.specs.Kept.{AreCountsAt, AreFloodsAt, AreSumsOf, IsKept, IsStateAt, IsTotalAt};
+ghost use Rattle.run_engine.specs.Laterals.{laterals_at};
 ghost use Rattle.run_engine.specs.Results.{end_at};
 ghost use Rattle.run_engine.specs.Ready.{IsReady};
 ghost use Rattle.run_engine.specs.States.{length_at, moment_at, project_law};
 ghost use Rattle.run_engine.specs.Times.{IsRunStep, IsRunTime, goes_on};
 
 use crate::kept::Kept;
+use crate::laterals::{advance_runoff, find_laterals};
 use crate::step::make_step;
 use crate::times::next_span;
 use continuity::{RunAccount, account_step, find_floods};
@@ -28,13 +30,16 @@ pub(crate) fn one_step(project: &Project, law: &HydraulicLaw, kept: &mut Kept)
 {
     let made = kept.counts.steps;
     let span = next_span(&project.options, kept.moment, kept.nets.least);
+    advance_runoff(project, span.finish, &mut kept.runoff);
+    let laterals = kept.laterals.as_mut_slice();
+    find_laterals(project, span.finish, &kept.runoff, laterals);
     let end = step_on(
         project,
         law,
         made,
         span.finish,
         span.length,
-        kept.laterals.as_mut_slice(),
+        laterals,
         &mut kept.before,
         &mut kept.nets,
     );
@@ -69,7 +74,7 @@ fn step_on(
     k: u64,
     finish: i64,
     dt: i64,
-    laterals: &mut [i128],
+    laterals: &[i128],
     before: &mut Nets,
     nets: &mut Nets,
 ) -> StepEnd
@@ -78,14 +83,13 @@ fn step_on(
     requires finish { finish ≡ moment_at project.now (k + 1) }
     requires length { dt ≡ length_at project.now k }
     requires step { IsRunStep project.now.options finish dt }
-    requires places { length laterals.old ≡ length project.now.nodes }
+    requires laterals { laterals.now ≡ laterals_at project.now finish }
     requires room { Fits (project_law project.now) before.old }
     requires now { IsStateAt project.now k nets.old }
     ensures before { before.new ≡ nets.old }
     ensures next { IsStateAt project.now (k + 1) nets.new }
     ensures end { result ≡ end_at project.now k }
     ensures trials { result.trials ≤ 20 }
-    ensures places { length laterals.new ≡ length project.now.nodes }
 {
     make_step(project, law, finish, dt, laterals, before, nets)
 }

@@ -4,7 +4,7 @@ ghost use Rattle.fixed_num.specs.Ranges.{IsElevation, IsDepth, IsFlow};
 ghost use Rattle.link_eval.specs.Hydraulics.{hydraulics_of};
 ghost use Rattle.trial_model.specs.Start.{resting};
 ghost use Rattle.fixed_num.specs.Lists.{list_of, number};
-ghost use Rattle.run_engine.specs.Amounts.{laterals_at};
+ghost use Rattle.run_engine.specs.Laterals.{laterals_at};
 ghost use Rattle.run_engine.specs.Ready.{IsReady};
 ghost use Rattle.run_engine.specs.States.{kind_flow, kind_head, opening};
 ghost use Rattle.run_engine.specs.States.{opening_flow, opening_head, opening_inflow, opening_level};
@@ -14,26 +14,23 @@ use link_eval::HydraulicLaw;
 use net_types::{Link, LinkKind, NodeKind, OutOfMemory, Project};
 use phase_law::{NodeFixed, PhaseLaw};
 use std::alloc::Global;
-use time_series::{lateral_flows, node_stage};
+use time_series::node_stage;
 use trial_model::{Nets, sum_flows};
 
-// The state before the first step: initial heads and flows, and what the nodes get of these flows. There is a place
-// for the lateral inflow of each node.
+// The state before the first step: initial heads and flows, and what the nodes get of these flows.
 pub(crate) fn open_state(
     alloc: Global,
     project: &Project,
     law: &HydraulicLaw,
-    laterals: &mut [i128],
+    laterals: &[i128],
 ) -> Result<Nets, OutOfMemory>
     requires project { IsReady project.now }
     requires law { law.now.hydraulics ≡ hydraulics_of project.now }
-    requires places { length laterals.old ≡ length project.now.nodes }
-    ensures state { IfOk result (λ nets. nets ≡ opening project.now) }
-    ensures places { length laterals.new ≡ length project.now.nodes }
+    requires laterals { laterals.now ≡ laterals_at project.now (pos 0) }
+    ensures { IfOk result (λ nets. nets ≡ opening project.now) }
 {
     let nodes = project.nodes.as_slice().len() as u32;
     let links = project.links.as_slice().len() as u32;
-    lateral_flows(project, 0, laterals);
     let mut nets = Nets::with_room(alloc, nodes, links)?;
     open_nets(project, law, laterals, &mut nets);
     Ok(nets)

@@ -6,25 +6,26 @@ ghost use Rattle.time_series.specs.LateralFlow.{IsRunMoment};
 ghost use Rattle.trial_model.specs.Fits.{Fits, FlowsFit, HeadsFit, node_fixed_at};
 ghost use Rattle.fixed_num.specs.Lists.{number, list_of};
 ghost use Rattle.run_engine.specs.Ready.{IsReady};
-ghost use Rattle.run_engine.specs.Amounts.{AreAmounts, HaveLaterals, laterals_at};
+ghost use Rattle.run_engine.specs.Amounts.{AreAmounts, HaveLaterals};
+ghost use Rattle.run_engine.specs.Laterals.{laterals_at};
 ghost use Rattle.run_engine.specs.States.{link_start, node_start, prepared, project_law};
 
 use crate::opening::lateral_here;
 use link_eval::HydraulicLaw;
 use net_types::Project;
 use phase_law::{LinkFixed, NodeFixed, PhaseLaw};
-use time_series::{lateral_flows, node_stage};
+use time_series::node_stage;
 use trial_model::Nets;
 
 // Makes a state ready for the trials of a step that finishes at this moment and has this length, both in ms: the flows,
 // heads and net inflows of the state stay the same over the trials, beside the lateral inflows and stages at the
-// step's end. There is a place for the lateral inflow of each node.
+// step's end.
 pub(crate) fn prepare(
     project: &Project,
     law: &HydraulicLaw,
     finish: i64,
     dt: i64,
-    laterals: &mut [i128],
+    laterals: &[i128],
     nets: &mut Nets,
 )
     requires project { IsReady project.now }
@@ -32,12 +33,10 @@ pub(crate) fn prepare(
     requires fits { Fits (project_law project.now) nets.old }
     requires finish { IsRunMoment project.now finish }
     requires dt { IsStepLength dt }
-    requires places { length laterals.old ≡ length project.now.nodes }
+    requires laterals { laterals.now ≡ laterals_at project.now finish }
     ensures nets { nets.new ≡ prepared project.now finish dt nets.old }
     ensures fits { Fits (project_law project.now) nets.new }
-    ensures places { length laterals.new ≡ length project.now.nodes }
 {
-    lateral_flows(project, finish, laterals);
     let heads = nets.heads.as_slice();
     let flows = nets.flows.as_slice();
     let inflows = nets.inflows.as_slice();

@@ -11,6 +11,7 @@ ghost use Rattle.run_engine.specs.States.{steps_of};
 
 use crate::begin::{open_sums, zeros};
 use crate::kept::Kept;
+use crate::laterals::find_laterals;
 use crate::one_step::one_step;
 use crate::opening::open_state;
 use crate::output::put_report;
@@ -20,6 +21,7 @@ use fault_ports::{Failed, Sink};
 use link_eval::HydraulicLaw;
 use net_types::{OutOfMemory, Project, StepAccount};
 use report_writer::RunCounts;
+use runoff_states::Runoff;
 use std::alloc::Global;
 use std::marker::Model;
 use trial_model::Nets;
@@ -70,8 +72,10 @@ pub fn open_run(alloc: Global, project: Project) -> Result<Run, OutOfMemory>
     let law = HydraulicLaw::build(alloc, &project)?;
     let nodes = project.nodes.as_slice().len() as u32;
     let links = project.links.as_slice().len() as u32;
+    let runoff = Runoff::open(alloc, &project)?;
     let mut laterals = zeros(alloc, nodes)?;
-    let nets = open_state(alloc, &project, &law, laterals.as_mut_slice())?;
+    find_laterals(&project, 0, &runoff, laterals.as_mut_slice());
+    let nets = open_state(alloc, &project, &law, laterals.as_slice())?;
     let before = Nets::with_room(alloc, nodes, links)?;
     let floods = zeros(alloc, nodes)?;
     let sums = open_sums(alloc, &project, &nets, &floods)?;
@@ -79,6 +83,7 @@ pub fn open_run(alloc: Global, project: Project) -> Result<Run, OutOfMemory>
         moment: 0,
         nets,
         before,
+        runoff,
         laterals,
         floods,
         sums,

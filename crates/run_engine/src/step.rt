@@ -7,6 +7,7 @@ ghost use Rattle.time_series.specs.LateralFlow.{IsRunMoment};
 ghost use Rattle.trial_model.specs.Fits.{Fits};
 ghost use Rattle.trial_model.specs.Trial.{SumsOf};
 ghost use Rattle.run_engine.specs.Kept.{HaveSameCounts};
+ghost use Rattle.run_engine.specs.Laterals.{laterals_at};
 ghost use Rattle.run_engine.specs.Ready.{IsReady};
 ghost use Rattle.run_engine.specs.States.{next_nets, project_law, step_end};
 
@@ -16,13 +17,13 @@ use net_types::{List, Project};
 use trial_model::{Nets, StepEnd, step_alone};
 
 // Makes the step that finishes at this moment and has this length, both in ms, from a state to the next, and keeps the
-// state in `before`. There is a place for the lateral inflow of each node.
+// state in `before`.
 pub(crate) fn make_step(
     project: &Project,
     law: &HydraulicLaw,
     finish: i64,
     dt: i64,
-    laterals: &mut [i128],
+    laterals: &[i128],
     before: &mut Nets,
     nets: &mut Nets,
 ) -> StepEnd
@@ -30,14 +31,13 @@ pub(crate) fn make_step(
     requires law { law.now.hydraulics ≡ hydraulics_of project.now }
     requires finish { IsRunMoment project.now finish }
     requires dt { IsStepLength dt }
-    requires places { length laterals.old ≡ length project.now.nodes }
+    requires laterals { laterals.now ≡ laterals_at project.now finish }
     requires room { Fits (project_law project.now) before.old }
     requires fits { Fits (project_law project.now) nets.old }
     requires tops { IsBelowTops (hydraulics_of project.now) nets.old }
     ensures before { before.new ≡ nets.old }
     ensures nets { nets.new ≡ next_nets project.now finish dt nets.old }
     ensures end { result ≡ step_end project.now finish dt nets.old }
-    ensures places { length laterals.new ≡ length project.now.nodes }
 
     // What holds of the end and of the next state.
     ensures few { result.trials ≤ 20 }

@@ -1,7 +1,7 @@
 -- The steps that are done at a moment.
 use Rattle.std.proofs.Common.{◌≡◌, ℕ, ◌+◌, ◌*◌, ◌/◌, ◌<◌, ◌≤◌, ℤ, pos, negsuc, ◌*ℤ◌, ◌≤ℤ◌, ◌<ℤ◌}
 use Rattle.std.proofs.Common.{sym, ap, ◌∙◌, arith}
-use Rattle.std.proofs.Math.Nat.{div-eq_of_lt-le}
+use Rattle.std.proofs.Math.Nat.{div-eq_of_lt-le, lt-mul-div-succ, mul-div-le}
 use Rattle.std.proofs.lemmas.Int.{ints}
 use Rattle.infiltration.specs.Depths.{IsRunoffStep}
 use Rattle.net_types.specs.declared.project.Project.{Project}
@@ -29,3 +29,13 @@ held project start moment later steps node h a b =
     let first = one_count project.options.wet_ms moment steps h a in
     let second = one_count project.options.wet_ms later steps h b in
     ap (λ (j : ℕ). node_runoff project (runoff_state project start j) node) (sym first ∙ second)
+
+-- the steps that are counted are done
+pub count_done : (ms moment : ℤ) → IsRunoffStep ms → pos 0 ≤ℤ moment → AreDone ms moment (steps_done ms moment)
+count_done (pos ms) (pos moment) h m =
+    let some : 0 < ms = omega (arith, ints, h.from) in
+    let low = mul-div-le moment ms in
+    let high = lt-mul-div-succ moment some in
+    record { ended = omega (arith, ints, low); next = omega (arith, ints, high) }
+count_done (pos ms) (negsuc moment) h m = absurd (omega (arith, ints, m))
+count_done (negsuc ms) moment h m = absurd (omega (arith, ints, h.from))

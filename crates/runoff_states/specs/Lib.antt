@@ -1,3 +1,4 @@
 pub mod RunoffStates
 pub mod RunoffTimes
 pub mod RunoffAccount
+pub mod Runoff

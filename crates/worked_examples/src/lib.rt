@@ -14,3 +14,5 @@ mod reaches;
 mod refusals;
 #[cfg(test)]
 mod runs;
+#[cfg(test)]
+mod times;
