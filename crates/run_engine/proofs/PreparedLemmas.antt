@@ -1,28 +1,32 @@
 -- A state made ready for a step: its parts and its ranges.
-use Rattle.std.proofs.Common.{◌≡◌, ◌∙◌, ℕ, ◌*◌, ◌^◌, ◌<◌, ℤ, pos, ◌+ℤ◌, ◌-ℤ◌}
+use Rattle.std.proofs.Common.{◌≡◌, ◌∙◌, ℕ, ◌*◌, ◌^◌, ◌<◌, Bool, true, false, ◌&&◌, if◌then◌else◌, ℤ, pos, ◌+ℤ◌, ◌-ℤ◌, int_le, int_lt}
 use Rattle.std.proofs.Common.{◌≤ℤ◌, List, length, refl, sym, subst, ap, arith}
 use Rattle.std.proofs.lemmas.Int.{ints}
-use Rattle.std.proofs.lemmas.List.FromFn.{length-map-range_with_len}
-use Rattle.fixed_num.specs.Ranges.{IsBetween, IsWithin, IsFlow, IsStepLength}
+use Rattle.std.proofs.lemmas.List.FromFn.{fill_by_all, length-map-range_with_len}
+use Rattle.fixed_num.specs.Ranges.{IsBetween, IsWithin, IsFlow, IsPart, IsStepLength}
 use Rattle.link_eval.specs.Good.{IsGood}
 use Rattle.link_eval.specs.declared.hydraulics.Hydraulics.{Hydraulics}
 use Rattle.link_eval.specs.Hydraulics.{hydraulics_of, law_of}
 use Rattle.link_eval.proofs.ValueLemmas.{mid_area_at-between}
+use Rattle.net_types.specs.Records.{link_at}
+use Rattle.net_types.specs.declared.network.LinkKind.{LinkKind}
+use Rattle.net_types.specs.declared.network.LinkKind.TheVariants.{Conduit, Pump, Orifice, Weir}
 use Rattle.net_types.specs.declared.project.Project.{Project}
+use Rattle.pump_flow.specs.PumpSetting.{pump_setting_of}
 use Rattle.phase_law.specs.Law.{Law}
 use Rattle.phase_law.specs.Ranges.{LinkFixedInRange, NodeFixedInRange}
 use Rattle.phase_law.specs.declared.values.LinkFixed.{LinkFixed}
 use Rattle.phase_law.specs.declared.values.NodeFixed.{NodeFixed}
 use Rattle.trial_model.specs.declared.nets.Nets.{Nets}
-use Rattle.trial_model.specs.Fits.{Fits, NodesFit, SumsFit, node_fixed_at}
+use Rattle.trial_model.specs.Fits.{Fits, NodesFit, SumsFit, link_fixed_at, node_fixed_at}
 use Rattle.fixed_num.specs.Lists.{number, list_of}
 use Rattle.trial_model.specs.Start.{no_link, no_node}
 use Rattle.trial_model.proofs.RangeLemmas.{listed}
 use Rattle.link_eval.specs.LawGood.{head_in as head_of, head_of_law as head_in}
 use Rattle.run_engine.specs.Amounts.{AreAmounts, HaveLaterals}
 use Rattle.run_engine.specs.Ready.{IsReady}
-use Rattle.run_engine.specs.States.{link_start, node_start, prepared, prepared_link, prepared_node, project_law}
-use Rattle.run_engine.proofs.LawLemmas.{law_nodes, link_in, project_law_good}
+use Rattle.run_engine.specs.States.{link_start, node_start, prepared, prepared_link, prepared_node, project_law, set_link, setting_by_depth, setting_from}
+use Rattle.run_engine.proofs.LawLemmas.{law_links, law_nodes, link_in, project_law_good}
 use Rattle.run_engine.proofs.OpeningLemmas.{lateral_in, stage_in}
 
 -- ---- the net inflow of a node
@@ -72,18 +76,49 @@ laterals_are {law} {nodes} {xs} {count} fit e same =
     })
 
 -- ---- the state made ready
+-- a link of a state whose links are set
+started : (project : Project) (h : Hydraulics) (heads flows : List ℤ) (dt : ℤ) (links set : List LinkFixed) (count : ℕ)
+    → set ≡ list_of (set_link project heads links) count
+    → list_of (λ l. link_start h heads flows (link_fixed_at set l).setting dt l) count
+    ≡ list_of (λ l. link_start h heads flows (setting_from project heads links l) dt l) count
+started project h heads flows dt links set count e =
+    let before : ℕ → LinkFixed = λ l. link_start h heads flows (link_fixed_at set l).setting dt l in
+    let after : ℕ → LinkFixed = λ l. link_start h heads flows (setting_from project heads links l) dt l in
+    fill_by_all after (list_of before count) count no_link (length-map-range_with_len before 0 count)
+    (λ k inside. listed before count k no_link inside
+    ∙ ap (λ (xs : List LinkFixed). link_start h heads flows (link_fixed_at xs k).setting dt k) e
+    ∙ ap (λ (x : LinkFixed). link_start h heads flows x.setting dt k) (listed (set_link project heads links) count k no_link inside))
+
 -- part by part
-pub prepared_is : (project : Project) (finish dt : ℤ) (s : Nets) {h : Hydraulics} {links : List LinkFixed} {nodes : List NodeFixed} → h ≡ hydraulics_of project
-    → links ≡ list_of (link_start h s.heads s.flows dt) (law_of h).links
+pub prepared_is : (project : Project) (finish dt : ℤ) (s : Nets) {h : Hydraulics} {set links : List LinkFixed} {nodes : List NodeFixed} → h ≡ hydraulics_of project
+    → set ≡ list_of (set_link project s.heads s.links) (length project.links)
+    → links ≡ list_of (λ l. link_start h s.heads s.flows (link_fixed_at set l).setting dt l) (law_of h).links
     → nodes ≡ list_of (node_start project s.heads s.inflows s.outflows s.nodes finish dt) (length project.nodes)
     → ◌≡◌ {A = Nets} (record s { links = links; nodes = nodes }) (prepared project finish dt s)
 unfolding prepared
-prepared_is project finish dt s {h} {links} {nodes} same e1 e2 =
-    let links_are : links ≡ list_of (prepared_link project s dt) (project_law project).links =
-    e1 ∙ ap (λ (x : Hydraulics). list_of (link_start x s.heads s.flows dt) (law_of x).links) same in
+prepared_is project finish dt s {h} {set} {links} {nodes} same e0 e1 e2 =
+    let count = (project_law project).links in
+    let set_are : set ≡ list_of (set_link project s.heads s.links) count = e0 ∙ ap (list_of (set_link project s.heads s.links)) (sym (law_links project)) in
+    let links_are : links ≡ list_of (prepared_link project s dt) count =
+    e1 ∙ ap (λ (x : Hydraulics). list_of (λ l. link_start x s.heads s.flows (link_fixed_at set l).setting dt l) (law_of x).links) same
+    ∙ started project (hydraulics_of project) s.heads s.flows dt s.links set count set_are in
     let nodes_are : nodes ≡ list_of (prepared_node project s finish dt) (project_law project).nodes =
     e2 ∙ ap (list_of (prepared_node project s finish dt)) (sym (law_nodes project)) in
     cc (links_are, nodes_are)
+
+-- a setting by the depth is a part
+set_in : (shut start : Bool) {setting : ℤ} → IsPart setting → IsPart (if shut then pos 0 else if start then pos 1_000_000 else setting)
+set_in true start h = record { from = omega (arith, ints); to = omega (arith, ints) }
+set_in false true h = record { from = omega (arith, ints); to = omega (arith, ints) }
+set_in false false h = h
+
+kind_set_in : (kind : LinkKind) {depth setting : ℤ} → IsPart setting → IsPart (setting_by_depth kind depth setting)
+unfolding pump_setting_of
+kind_set_in (Conduit long n6 z1 z2 q0 q_max entry6 exit6 avg6 flap) h = h
+kind_set_in (Pump curve on startup shutoff) {depth} h =
+    set_in (int_lt (pos 0) shutoff && int_le depth shutoff) (int_lt (pos 0) startup && int_le startup depth) h
+kind_set_in (Orifice bottom offset cd6 flap) h = h
+kind_set_in (Weir notch crest cd6 flap contractions) h = h
 
 -- in range
 module _ {project : Project} (good : IsGood (hydraulics_of project)) (r : IsReady project) {s : Nets} (fits : Fits (project_law project) s)
@@ -97,7 +132,7 @@ module _ {project : Project} (good : IsGood (hydraulics_of project)) (r : IsRead
       record {
         flow = fits.flows.each l inside;
         area = record { from = area.from; to = area_fits area };
-        setting = record { from = omega (arith, ints); to = omega (arith, ints) };
+        setting = kind_set_in (link_at project.links l).kind (fits.links.each l inside).setting;
         length = length_in;
       }
     where

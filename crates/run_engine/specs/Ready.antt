@@ -2,11 +2,9 @@
 use Rattle.std.specs.Prelude.{◌≡◌, []}
 use Rattle.net_types.specs.declared.project.Project.{Project}
 use Rattle.project_check.specs.Faultless.{IsFaultless}
-use Rattle.link_eval.specs.Built.{HasHydraulics}
 
--- all that a run needs of a project is built: its hydraulics; control rules and runoff are not built yet
+-- control rules and runoff are not built yet
 pub record IsBuilt (project : Project) : Type 0 where
-  pub hydraulics : HasHydraulics project
   pub no_rules : project.rules ≡ []
   pub no_runoff : project.subs ≡ []
 

@@ -11,11 +11,11 @@ use Rattle.phase_law.specs.declared.values.LinkFixed.{LinkFixed}
 use Rattle.phase_law.specs.declared.values.NodeFixed.{NodeFixed}
 use Rattle.trial_model.specs.declared.nets.Nets.{Nets}
 use Rattle.trial_model.specs.declared.step.StepEnd.{StepEnd}
-use Rattle.trial_model.specs.Fits.{node_fixed_at}
+use Rattle.pump_flow.specs.PumpSetting.{pump_setting_of}
+use Rattle.trial_model.specs.Fits.{link_fixed_at, node_fixed_at}
 use Rattle.fixed_num.specs.Lists.{number, list_of}
 use Rattle.fixed_num.specs.Sums.{below}
 use Rattle.trial_model.specs.RoutingStep.{end_of, trials}
-use Rattle.trial_model.specs.Start.{no_link}
 use Rattle.trial_model.specs.Trial.{inflow_of, outflow_of}
 use Rattle.link_eval.specs.declared.hydraulics.Hydraulics.{Hydraulics}
 use Rattle.link_eval.specs.Hydraulics.{hydraulics_of, law_of, mid_area_at}
@@ -38,6 +38,18 @@ kind_flow (Weir notch crest cd6 flap contractions) = pos 0
 
 abbrev pub opening_flow : List Link → ℕ → ℤ
 opening_flow links l = kind_flow (link_at links l).kind
+
+-- the setting of a link in the beginning, in millionths: a pump may be off, all other links are open
+abbrev pub kind_setting : LinkKind → ℤ
+kind_setting (Conduit long n6 z1 z2 q0 q_max entry6 exit6 avg6 flap) = pos 1_000_000
+kind_setting (Pump curve on startup shutoff) = if on then pos 1_000_000 else pos 0
+kind_setting (Orifice bottom offset cd6 flap) = pos 1_000_000
+kind_setting (Weir notch crest cd6 flap contractions) = pos 1_000_000
+
+-- and nothing else of its own
+abbrev pub opening_link : List Link → ℕ → LinkFixed
+opening_link links l =
+    record { q_old = pos 0; a_old = pos 0; setting = kind_setting (link_at links l).kind; dt = pos 0 }
 
 -- what a node has of its own at a moment: its lateral inflow and its stage
 abbrev pub opening_node : Project → ℕ → NodeFixed
@@ -72,7 +84,7 @@ abbrev pub opening_head : Project → ℕ → ℤ
 opening_head project n =
     let node = node_of project.nodes n in kind_head node.kind node.invert node.y0 (opening_level project n)
 
--- the state before the first step: initial flows, what the nodes get of these flows, and initial heads
+-- the state before the first step: initial flows and settings, what the nodes get of these flows, and initial heads
 unfoldable pub opening : Project → Nets
 opening project =
     let law = project_law project in
@@ -84,26 +96,50 @@ opening project =
       outflows = list_of (opening_outflow project) law.nodes;
       areas = replicate law.nodes (pos 0);
       read_heads = replicate law.nodes (pos 0);
-      links = replicate law.links no_link;
+      links = list_of (opening_link project.links) law.links;
       nodes = list_of (opening_node project) law.nodes;
       least = pos 0;
     }
 
+-- ---- the settings of the links in a step
+-- the depth of water at the first node of a link, in µm
+abbrev pub first_depth : Project → (heads : List ℤ) → ℕ → ℤ
+first_depth project heads l =
+    let n = (link_at project.links l).first in number heads n -ℤ (node_of project.nodes n).invert
+
+-- a pump starts and stops by that depth; another link keeps its setting
+abbrev pub setting_by_depth : LinkKind → (depth setting : ℤ) → ℤ
+setting_by_depth (Conduit long n6 z1 z2 q0 q_max entry6 exit6 avg6 flap) depth setting = setting
+setting_by_depth (Pump curve on startup shutoff) depth setting = pump_setting_of startup shutoff depth setting
+setting_by_depth (Orifice bottom offset cd6 flap) depth setting = setting
+setting_by_depth (Weir notch crest cd6 flap contractions) depth setting = setting
+
+-- the setting over the step that begins with these heads of a link that had another before
+abbrev pub setting_from : Project → (heads : List ℤ) → List LinkFixed → ℕ → ℤ
+setting_from project heads links l =
+    setting_by_depth (link_at project.links l).kind (first_depth project heads l) (link_fixed_at links l).setting
+
+abbrev pub set_link : Project → (heads : List ℤ) → List LinkFixed → ℕ → LinkFixed
+set_link project heads links l = record (link_fixed_at links l) { setting = setting_from project heads links l }
+
+-- the settings over the step that begins in a state
+abbrev pub settings_in : Project → Nets → ℕ → ℤ
+settings_in project s = setting_from project s.heads s.links
+
 -- ---- a step
--- what stays the same for a link over a step: its flow and its middle area in the state, its setting (all are
--- open), the length
-abbrev pub link_start : Hydraulics → (heads flows : List ℤ) → (dt : ℤ) → ℕ → LinkFixed
-link_start h heads flows dt l =
+-- what stays the same for a link over a step: its flow and its middle area in the state, its setting, the length
+abbrev pub link_start : Hydraulics → (heads flows : List ℤ) → (setting dt : ℤ) → ℕ → LinkFixed
+link_start h heads flows setting dt l =
     let ends = (law_of h).ends l in
     record {
       q_old = number flows l;
       a_old = mid_area_at h l (number heads ends.0) (number heads ends.1);
-      setting = pos 1_000_000;
+      setting = setting;
       dt = dt;
     }
 
 abbrev pub prepared_link : Project → Nets → (dt : ℤ) → ℕ → LinkFixed
-prepared_link project s = link_start (hydraulics_of project) s.heads s.flows
+prepared_link project s dt l = link_start (hydraulics_of project) s.heads s.flows (settings_in project s l) dt l
 
 -- and for a node: its head and its net inflow in the state, and its lateral inflow and stage at the step's end
 abbrev pub node_start : Project → (heads inflows outflows : List ℤ) → List NodeFixed → (finish dt : ℤ) → ℕ → NodeFixed

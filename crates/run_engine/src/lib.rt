@@ -18,6 +18,7 @@ mod opening;
 mod output;
 mod prepare;
 mod run;
+mod settings;
 mod step;
 mod times;
 

@@ -1,18 +1,18 @@
 // The opening state of a run.
-ghost use Rattle.std.specs.Prelude.{◌≡◌, ◌<◌, length, pos, IfOk};
+ghost use Rattle.std.specs.Prelude.{◌≡◌, ◌<◌, if◌then◌else◌, length, pos, IfOk};
 ghost use Rattle.fixed_num.specs.Ranges.{IsElevation, IsDepth, IsFlow};
 ghost use Rattle.link_eval.specs.Hydraulics.{hydraulics_of};
 ghost use Rattle.trial_model.specs.Start.{resting};
 ghost use Rattle.fixed_num.specs.Lists.{list_of, number};
 ghost use Rattle.run_engine.specs.Amounts.{laterals_at};
 ghost use Rattle.run_engine.specs.Ready.{IsReady};
-ghost use Rattle.run_engine.specs.States.{kind_flow, kind_head, opening};
-ghost use Rattle.run_engine.specs.States.{opening_flow, opening_head, opening_inflow, opening_level};
+ghost use Rattle.run_engine.specs.States.{kind_flow, kind_head, kind_setting, opening};
+ghost use Rattle.run_engine.specs.States.{opening_flow, opening_head, opening_inflow, opening_level, opening_link};
 ghost use Rattle.run_engine.specs.States.{opening_node, opening_outflow};
 
 use link_eval::HydraulicLaw;
 use net_types::{Link, LinkKind, NodeKind, OutOfMemory, Project};
-use phase_law::{NodeFixed, PhaseLaw};
+use phase_law::{LinkFixed, NodeFixed, PhaseLaw};
 use std::alloc::Global;
 use time_series::{lateral_flows, node_stage};
 use trial_model::{Nets, sum_flows};
@@ -49,6 +49,7 @@ fn open_nets(project: &Project, law: &HydraulicLaw, laterals: &[i128], nets: &mu
 {
     let links = project.links.as_slice();
     open_flows(links, nets.flows.as_mut_slice());
+    open_links(links, nets.links.as_mut_slice());
     open_nodes(project, laterals, nets.nodes.as_mut_slice());
     sum_flows(law, nets);
     let nodes = nets.nodes.as_slice();
@@ -177,6 +178,46 @@ fn kind_flow(kind: &LinkKind) -> i64
         LinkKind::Conduit { q0, .. } => *q0,
         LinkKind::Pump { .. } | LinkKind::Orifice { .. } | LinkKind::Weir { .. } => 0,
     }
+}
+
+// Sets the initial setting of every link, in millionths.
+fn open_links(links: &[Link], fixed: &mut [LinkFixed])
+    requires fixed { length fixed.old ≡ length links.now }
+    ensures { fixed.new ≡ list_of (opening_link links.now) (length links.now) }
+{
+    for l in 0..links.len() {
+        fixed[l] = open_link(links, l);
+    }
+}
+
+// What a link has of its own at the beginning.
+fn open_link(links: &[Link], l: usize) -> LinkFixed
+    requires l { l < length links.now }
+    ensures { result ≡ opening_link links.now l }
+{
+    LinkFixed {
+        q_old: 0,
+        a_old: 0,
+        setting: kind_setting(&links[l].kind),
+        dt: 0,
+    }
+}
+
+// The initial setting of a link of this kind, in millionths.
+fn kind_setting(kind: &LinkKind) -> i64
+    ensures { result ≡ kind_setting kind.now }
+{
+    match kind {
+        LinkKind::Pump { on, .. } => open_or_shut(*on),
+        LinkKind::Conduit { .. } | LinkKind::Orifice { .. } | LinkKind::Weir { .. } => 1_000_000,
+    }
+}
+
+// The setting of a pump that is on or off.
+fn open_or_shut(on: bool) -> i64
+    ensures { result ≡ (if on then pos 1_000_000 else pos 0) }
+{
+    if on { 1_000_000 } else { 0 }
 }
 
 // Sets what the nodes have of their own at the beginning.

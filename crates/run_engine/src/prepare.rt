@@ -3,13 +3,14 @@ ghost use Rattle.std.specs.Prelude.{◌≡◌, ◌<◌, length};
 ghost use Rattle.link_eval.specs.Hydraulics.{hydraulics_of, law_of, mid_area_at};
 ghost use Rattle.fixed_num.specs.Ranges.{IsStepLength, IsFlow};
 ghost use Rattle.time_series.specs.LateralFlow.{IsRunMoment};
-ghost use Rattle.trial_model.specs.Fits.{Fits, FlowsFit, HeadsFit, node_fixed_at};
+ghost use Rattle.trial_model.specs.Fits.{Fits, FlowsFit, HeadsFit, link_fixed_at, node_fixed_at};
 ghost use Rattle.fixed_num.specs.Lists.{number, list_of};
 ghost use Rattle.run_engine.specs.Ready.{IsReady};
 ghost use Rattle.run_engine.specs.Amounts.{AreAmounts, HaveLaterals, laterals_at};
 ghost use Rattle.run_engine.specs.States.{link_start, node_start, prepared, project_law};
 
 use crate::opening::lateral_here;
+use crate::settings::set_links;
 use link_eval::HydraulicLaw;
 use net_types::Project;
 use phase_law::{LinkFixed, NodeFixed, PhaseLaw};
@@ -17,8 +18,8 @@ use time_series::{lateral_flows, node_stage};
 use trial_model::Nets;
 
 // Makes a state ready for the trials of a step that finishes at this moment and has this length, both in ms: the flows,
-// heads and net inflows of the state stay the same over the trials, beside the lateral inflows and stages at the
-// step's end. There is a place for the lateral inflow of each node.
+// heads and net inflows of the state stay the same over the trials, beside the settings of the links, and the lateral
+// inflows and stages at the step's end. There is a place for the lateral inflow of each node.
 pub(crate) fn prepare(
     project: &Project,
     law: &HydraulicLaw,
@@ -42,7 +43,9 @@ pub(crate) fn prepare(
     let flows = nets.flows.as_slice();
     let inflows = nets.inflows.as_slice();
     let outflows = nets.outflows.as_slice();
-    prepare_links(law, dt, heads, flows, nets.links.as_mut_slice());
+    let links = nets.links.as_mut_slice();
+    set_links(project, heads, links);
+    prepare_links(law, dt, heads, flows, links);
     prepare_nodes(
         project,
         finish,
@@ -55,29 +58,38 @@ pub(crate) fn prepare(
     );
 }
 
-// Sets what stays the same for every link over a step of this length.
+// Sets what stays the same for every link over a step of this length. Their settings stand already.
 fn prepare_links(law: &HydraulicLaw, dt: i64, heads: &[i64], flows: &[i64], links: &mut [LinkFixed])
     requires heads { HeadsFit (law_of law.now.hydraulics) heads.now }
     requires flows { FlowsFit (law_of law.now.hydraulics) flows.now }
     requires links { length links.old ≡ (law_of law.now.hydraulics).links }
-    ensures { let h = law.now.hydraulics in links.new ≡ list_of (link_start h heads.now flows.now dt) (law_of h).links }
+    ensures { let h = law.now.hydraulics in links.new
+        ≡ list_of (λ l. link_start h heads.now flows.now (link_fixed_at links.old l).setting dt l) (law_of h).links }
 {
     for link in 0..law.links() {
-        links[link as usize] = link_start(law, link, dt, heads, flows);
+        let setting = links[link as usize].setting;
+        links[link as usize] = link_start(law, link, setting, dt, heads, flows);
     }
 }
 
-// What stays the same for a link over a step. All links are open, which is a setting of 10^6 millionths.
-fn link_start(law: &HydraulicLaw, link: u32, dt: i64, heads: &[i64], flows: &[i64]) -> LinkFixed
+// What stays the same over a step for a link with this setting.
+fn link_start(
+    law: &HydraulicLaw,
+    link: u32,
+    setting: i64,
+    dt: i64,
+    heads: &[i64],
+    flows: &[i64],
+) -> LinkFixed
     requires link { link < (law_of law.now.hydraulics).links }
     requires heads { HeadsFit (law_of law.now.hydraulics) heads.now }
     requires flows { FlowsFit (law_of law.now.hydraulics) flows.now }
-    ensures { result ≡ link_start law.now.hydraulics heads.now flows.now dt link }
+    ensures { result ≡ link_start law.now.hydraulics heads.now flows.now setting dt link }
 {
     LinkFixed {
         q_old: flows[link as usize],
         a_old: middle_area(law, link, heads),
-        setting: 1_000_000,
+        setting,
         dt,
     }
 }

@@ -1,10 +1,8 @@
 // Whether all is built that a run needs of a project.
 ghost use Rattle.std.specs.Prelude.{◌≡◌};
-ghost use Rattle.std.specs.List.{list_all};
-ghost use Rattle.swmm_top.specs.Built.{are_built_links, are_built_steps};
-ghost use Rattle.swmm_top.specs.Built.{is_built, is_built_link, is_conduit, is_empty};
+ghost use Rattle.swmm_top.specs.Built.{is_built, is_empty};
 
-use net_types::{Link, LinkKind, Project, Sub};
+use net_types::{Project, Rule, Sub};
 
 /// Whether all is built that a run needs of a project: a run of another is refused. `built_is_told` says that
 /// the test of `specs/Built.antt` tells exactly that.
@@ -14,31 +12,14 @@ use net_types::{Link, LinkKind, Project, Sub};
 pub fn is_built(project: &Project) -> bool
     ensures { result ≡ is_built project.now }
 {
-    if !are_built_links(project) {
-        return false;
-    }
-    are_built_steps(project)
+    has_no_rules(project.rules.as_slice()) && has_no_subs(project.subs.as_slice())
 }
 
-// Whether the laws of all links are built.
-fn are_built_links(project: &Project) -> bool
-    ensures { result ≡ are_built_links project.now }
+fn has_no_rules(rules: &[Rule]) -> bool
+    ensures { result ≡ is_empty rules.now }
 {
-    all_links(project.links.as_slice())
-}
-
-fn all_links(links: &[Link]) -> bool
-    ensures { result ≡ list_all is_built_link links.now }
-{
-    links.iter().all(|link| is_built_link(link))
-}
-
-// Whether the project has neither control rules nor subcatchments.
-fn are_built_steps(project: &Project) -> bool
-    ensures { result ≡ are_built_steps project.now }
-{
-    match project.rules.as_slice() {
-        [] => has_no_subs(project.subs.as_slice()),
+    match rules {
+        [] => true,
         [_, ..] => false,
     }
 }
@@ -50,16 +31,4 @@ fn has_no_subs(subs: &[Sub]) -> bool
         [] => true,
         [_, ..] => false,
     }
-}
-
-fn is_built_link(link: &Link) -> bool
-    ensures { result ≡ is_built_link link.now }
-{
-    is_conduit(&link.kind)
-}
-
-fn is_conduit(kind: &LinkKind) -> bool
-    ensures { result ≡ is_conduit kind.now }
-{
-    matches!(kind, LinkKind::Conduit { .. })
 }
