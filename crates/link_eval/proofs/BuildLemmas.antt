@@ -1,5 +1,5 @@
 -- The hydraulics of a project are good.
-use Rattle.std.proofs.Common.{◌≡◌, ◌∙◌, ℕ, zero, suc, ◌^◌, false, List, length, map, Option, Some, None, IsSome, IfSome, IsTrue, ℤ, pos, ◌≤ℤ◌, refl, ap, sym, subst, arith}
+use Rattle.std.proofs.Common.{◌≡◌, ◌∙◌, ℕ, zero, suc, ◌^◌, ◌≤◌, Bool, true, false, if◌then◌else◌, List, length, map, Option, Some, None, IsSome, IfSome, IsTrue, ℤ, pos, ◌≤ℤ◌, refl, ap, sym, subst, arith}
 use Rattle.std.specs.List.{All}
 use Rattle.fixed_num.specs.Lists.{list_of}
 use Rattle.std.proofs.lemmas.List.{length-map}
@@ -16,8 +16,16 @@ use Rattle.net_types.specs.Ranges.{SectionInRange}
 use Rattle.project_check.specs.Faultless.{IsFaultless, IsGoodSection as IsFaultlessSection}
 use Rattle.project_check.specs.Objects.{needs_none, section_area}
 use Rattle.project_check.proofs.LawLemmas.{faultless_good}
-use Rattle.xsect_tables.specs.SectionTable.{table_of, full_area}
+use Rattle.conduit_flow.specs.Conduits.{IsConduitTable}
+use Rattle.fixed_num.specs.Ranges.{IsBetween}
+use Rattle.xsect_tables.specs.SectionTable.{IsTable, RowBetween, SectionTable, table_of, full_area}
 use Rattle.xsect_tables.proofs.TableLemmas.{areas_are}
+use Rattle.fixed_num.specs.Units.{IsUnit}
+use Rattle.inp_values.specs.Units.{is_us, unit_for}
+use Rattle.inp_values.specs.declared.quantities.Quantity.TheVariants.{Depth, Flow, Volume}
+use Rattle.net_types.specs.declared.options.FlowUnits.{FlowUnits}
+use Rattle.pump_flow.specs.PumpFlow.{ArePumpUnits}
+use Rattle.link_eval.specs.Pumps.{pump_units_of}
 use Rattle.net_types.specs.declared.tables.Curve.{Curve}
 use Rattle.net_types.specs.Ranges.{CurveInRange}
 use Rattle.phase_law.specs.Laws.{AreEnds}
@@ -72,12 +80,29 @@ some_section kind None there h g = let no : ⊥ = cc in absurd no
 pub routed_section : {project : Project} (link : Link) → IsRouted project link → ¬ (IsTrue (needs_none link.kind)) → IsRoutedSection (given_section link.section)
 routed_section link r needs = some_section link.kind link.section (r.good.has_section needs) r.range.section_in r.good.good_section
 
+-- and the table of that can be routed
+pub table_good : {section : Section} {table : SectionTable} → IsRoutedSection section → table ≡ table_of section → IsTable table → RowBetween (pos 0) table.areas (full_area table) → IsConduitTable table
+table_good s is rows areas = record {
+  rows = rows;
+  full = subst (λ (t : SectionTable). IsBetween (pos 1) (full_area t) (pos (10 ^ 11))) (sym is) s.area;
+  areas = areas;
+}
+
 pub all_routed : (project : Project) → IsFaultless project → All (IsRouted project) project.links
 all_routed project f k d inside = record {
   names = f.sound.names.links k d inside;
   range = f.sound.ranges.links k d inside;
   good = (faultless_good project f).links k d inside;
 }
+
+-- ---- the units of pumps
+one_or_thousand : (b : Bool) → (if b then 1_000 else 1) ≤ 1_000
+one_or_thousand true = omega arith
+one_or_thousand false = omega arith
+
+pub pump_units_are : (units : FlowUnits) → IsUnit (unit_for units Volume) → IsUnit (unit_for units Depth) → IsUnit (unit_for units Flow) → ArePumpUnits (pump_units_of units)
+unfolding unit_for
+pump_units_are units v d f = record { volume = v; depth = d; flow = f; volume_part = one_or_thousand (is_us units); depth_whole = refl }
 
 -- the ends of a link whose nodes are in range and differ
 pub ends_of : {project : Project} (link : Link) → IsRouted project link → AreEnds (length project.nodes) (link.first, link.second)
