@@ -1,3 +1,4 @@
 pub mod ListLemmas
 pub mod BuildLemmas
 pub mod ValueLemmas
+pub mod OpenAreaLemmas

@@ -37,6 +37,13 @@ map_step f xs i x before after y h e was is step =
     let more : take (i + 1) xs ≡ take i xs ++ x ∷ [] = take_more xs i x h ∙ ap (λ z. take i xs ++ z ∷ []) (sym e) in
     step ∙ (ap (λ l. l ++ y ∷ []) was ∙ (ap (λ z. map f (take i xs) ++ z ∷ []) is ∙ sym (ap (map f) more ∙ map-append f (take i xs) (x ∷ []))))
 
+-- one item more of a copy
+pub copy_step : {X : Type 0} (xs : List X) (i : ℕ) (x : X) (before after : List X) (y : X) → i < length xs → x ≡ get_or xs i x
+    → before ≡ take i xs → y ≡ x → after ≡ before ++ y ∷ [] → after ≡ take (i + 1) xs
+copy_step xs i x before after y h e was is step =
+    let more : take (i + 1) xs ≡ take i xs ++ x ∷ [] = take_more xs i x h ∙ ap (λ z. take i xs ++ z ∷ []) (sym e) in
+    step ∙ (ap (λ l. l ++ y ∷ []) was ∙ (ap (λ z. take i xs ++ z ∷ []) is ∙ sym more))
+
 -- one item more with a property that all have
 pub all_step : {X : Type 0} (P : X → Type 0) (before after : List X) (x : X) → All P before → P x → after ≡ before ++ x ∷ [] → All P after
 all_step P before after x all h step = subst (All P) (sym step) (All-append P before (x ∷ []) all (one P x h))

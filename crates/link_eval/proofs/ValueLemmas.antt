@@ -1,6 +1,8 @@
 -- What good hydraulics give lies in its ranges, and a node that is no outfall stays below its top: for the crates that add up volumes.
 use Rattle.std.proofs.Common.{◌≡◌, ℕ, ◌^◌, ◌<◌, Bool, false, length, ℤ, pos, ◌*◌, ◌≤ℤ◌, unsigned_abs}
-use Rattle.conduit_flow.proofs.GeometryLemmas.{mid_area_of-between}
+use Rattle.std.proofs.Common.{arith}
+use Rattle.std.proofs.lemmas.Int.{ints}
+use Rattle.conduit_flow.proofs.GeometryLemmas.{mid_area_of-between, volume_of-between}
 use Rattle.fixed_num.specs.Ranges.{IsBetween, IsHead, IsWithin}
 use Rattle.node_update.proofs.GainLemmas.{gain_within, inflow_between, outflow_between}
 use Rattle.node_update.proofs.UpdateLemmas.{next_place, flood_between, flood_most, volume_within}
@@ -9,13 +11,31 @@ use Rattle.node_update.specs.NodeLaws.{is_outfall_rule}
 use Rattle.phase_law.specs.Ranges.{HeadInRange, SumsInRange, NodeFixedInRange}
 use Rattle.phase_law.specs.declared.values.NodeFixed.{NodeFixed}
 use Rattle.link_eval.specs.Good.{IsGood}
-use Rattle.link_eval.specs.Hydraulics.{Hydraulics, node_law_at, mid_area_at, law_of}
+use Rattle.link_eval.specs.Hydraulics.{Hydraulics, node_law_at, link_law_at, mid_area_at, law_of, rule_mid_area, rule_volume}
+use Rattle.link_eval.specs.LinkLaws.{IsLinkRule}
+use Rattle.link_eval.specs.declared.link_law.LinkRule.{LinkRule}
+use Rattle.link_eval.specs.declared.link_law.LinkRule.TheVariants.{Conduit as ConduitRule, Pump as PumpRule, Orifice as OrificeRule, Weir as WeirRule}
 use Rattle.link_eval.specs.LawGood.{head_in, fixed_in}
 
--- ---- a link, by its number
+-- ---- a link, by its rule and by its number
+none-between : (m : ℕ) → IsBetween (pos 0) (pos 0) (pos m)
+none-between m = record { from = omega (arith, ints); to = omega (arith, ints) }
+
+pub rule_mid_area-between : (rule : LinkRule) {near far : ℤ} → IsLinkRule rule → IsHead near → IsHead far → IsBetween (pos 0) (rule_mid_area rule near far) (pos (5 * 10 ^ 11))
+rule_mid_area-between (ConduitRule law) r n f = mid_area_of-between r.conduit r.table n f
+rule_mid_area-between (PumpRule law) r n f = none-between (5 * 10 ^ 11)
+rule_mid_area-between (OrificeRule law) r n f = none-between (5 * 10 ^ 11)
+rule_mid_area-between (WeirRule law) r n f = none-between (5 * 10 ^ 11)
+
+pub rule_volume-between : (rule : LinkRule) {near far : ℤ} → IsLinkRule rule → IsHead near → IsHead far → IsBetween (pos 0) (rule_volume rule near far) (pos (10 ^ 22))
+rule_volume-between (ConduitRule law) r n f = volume_of-between r.conduit r.table n f
+rule_volume-between (PumpRule law) r n f = none-between (10 ^ 22)
+rule_volume-between (OrificeRule law) r n f = none-between (10 ^ 22)
+rule_volume-between (WeirRule law) r n f = none-between (10 ^ 22)
+
 pub mid_area_at-between : (h : Hydraulics) (l : ℕ) {near far : ℤ} → IsGood h → l < length h.links → IsHead near → IsHead far → IsBetween (pos 0) (mid_area_at h l near far) (pos (5 * 10 ^ 11))
 unfolding mid_area_at
-mid_area_at-between h l g inside n f = let link = g.links l inside in mid_area_of-between link.conduit link.table n f
+mid_area_at-between h l g inside n f = rule_mid_area-between (link_law_at h l).rule (g.links l inside).rule n f
 
 -- ---- a node, by its number
 pub node_volume-within : (h : Hydraulics) (n : ℕ) {head : ℤ} → IsGood h → n < length h.nodes → HeadInRange (law_of h) head → IsWithin (10 ^ 21) (node_volume_of (node_law_at h n) head)

@@ -23,8 +23,15 @@ use Rattle.phase_law.specs.declared.values.NodeFixed.{NodeFixed}
 use Rattle.phase_law.specs.declared.values.Share.{Share}
 use Rattle.xsect_tables.proofs.TableLemmas.{width_of-between}
 use Rattle.xsect_tables.specs.SectionTable.{SectionTable}
+use Rattle.short_links.proofs.RangeLemmas.{short_share-in_range}
 use Rattle.link_eval.specs.Good.{IsGood}
-use Rattle.link_eval.specs.Hydraulics.{Hydraulics, law_of}
+use Rattle.link_eval.specs.Hydraulics.{Hydraulics, law_of, link_law_at, rule_share}
+use Rattle.link_eval.specs.LinkLaws.{IsLinkRule}
+use Rattle.link_eval.specs.Orifices.{orifice_share_of}
+use Rattle.link_eval.specs.Pumps.{pump_share_of}
+use Rattle.link_eval.specs.Weirs.{weir_share_of}
+use Rattle.link_eval.specs.declared.link_law.LinkRule.{LinkRule}
+use Rattle.link_eval.specs.declared.link_law.LinkRule.TheVariants.{Conduit as ConduitRule, Pump as PumpRule, Orifice as OrificeRule, Weir as WeirRule}
 
 -- ---- the share of a conduit
 least_of : (b : Bool) (q m : ℤ) → pos 0 ≤ℤ q → pos 0 ≤ℤ m → IsBetween (pos 0) (cond b m (int_min q m)) m
@@ -86,6 +93,15 @@ share-in_range {conduit} {table} fixed first near far last c t =
     (either (is_dry (middle_of table (mean_depth_of conduit near far))) no_share-in_range
     (wet_share-in_range fixed first near far last c t))
 
+-- ---- the share of a link
+rule_share-in_range : (h : Hydraulics) (rule : LinkRule) (node : ℕ) (fixed : LinkFixed) (first : Bool) (near far last : ℤ) → IsLinkRule rule
+    → ShareInRange (rule_share h rule node fixed first near far last)
+unfolding pump_share_of orifice_share_of weir_share_of
+rule_share-in_range h (ConduitRule law) node fixed first near far last r = share-in_range fixed first near far last r.conduit r.table
+rule_share-in_range h (PumpRule law) node fixed first near far last r = short_share-in_range law.ends first near far last _
+rule_share-in_range h (OrificeRule law) node fixed first near far last r = short_share-in_range law.ends first near far last _
+rule_share-in_range h (WeirRule law) node fixed first near far last r = short_share-in_range law.ends first near far last _
+
 -- ---- the next head of a node
 pub head_in : (h : Hydraulics) {head : ℤ} → HeadInRange (law_of h) head → IsHead head
 unfolding law_of
@@ -111,7 +127,7 @@ law_good h g = record {
   limit_most = omega arith;
   ends_in = λ l inside. (g.links l inside).ends;
   share_in = λ l fixed first near far last inside in_fixed in_near in_far in_last.
-      share-in_range fixed first near far last (g.links l inside).conduit (g.links l inside).table;
+      rule_share-in_range h (link_law_at h l).rule (link_law_at h l).first fixed first near far last (g.links l inside).rule;
   next_in = λ n fixed first inflow outflow area last inside in_fixed in_sums in_last.
       record { within = (next_within first inflow outflow area (g.nodes n inside) (fixed_in h in_fixed) (head_in h in_last)).within };
 }

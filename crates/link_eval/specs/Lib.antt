@@ -1,5 +1,11 @@
+pub mod Ends
+pub mod Conduits
+pub mod Pumps
+pub mod Orifices
+pub mod Weirs
+pub mod LinkLaws
 pub mod Hydraulics
-pub mod Built
 pub mod Routed
 pub mod Good
+pub mod RuleProps
 pub mod LawGood

@@ -2,9 +2,8 @@
 ghost use Rattle.std.specs.Prelude.{◌≡◌, length, map, IfOk};
 ghost use Rattle.std.specs.List.{All};
 ghost use Rattle.project_check.specs.Faultless.{IsFaultless};
-ghost use Rattle.link_eval.specs.Built.{HasHydraulics};
 ghost use Rattle.link_eval.specs.Good.{IsGoodLink};
-ghost use Rattle.link_eval.specs.Hydraulics.{link_law_of};
+ghost use Rattle.link_eval.specs.LinkLaws.{link_law_of};
 
 use crate::link_law::{LinkLaw, link_law};
 use net_types::{List, OutOfMemory, Project};
@@ -13,15 +12,14 @@ use std::alloc::Global;
 // The laws of all links.
 pub(crate) fn link_laws(alloc: Global, project: &Project) -> Result<List<LinkLaw>, OutOfMemory>
     requires faultless { IsFaultless project.now }
-    requires built { HasHydraulics project.now }
-    ensures { IfOk result (λ laws. (laws ≡ map (link_law_of project.now.nodes project.now.options) project.now.links)
-        × All (IsGoodLink (length project.now.nodes)) laws) }
+    ensures value { IfOk result (λ laws. laws
+        ≡ map (link_law_of project.now.nodes project.now.options) project.now.links) }
+    ensures good { IfOk result (All (IsGoodLink (length project.now.nodes) (length project.now.curves))) }
 {
     let mut laws = List::new(alloc);
-    let nodes = project.nodes.as_slice();
     let links = project.links.as_slice();
     for link in links {
-        laws.push(link_law(nodes, &project.options, link))?;
+        laws.push(link_law(alloc, project, link)?)?;
     }
     Ok(laws)
 }

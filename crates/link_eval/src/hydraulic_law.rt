@@ -2,16 +2,15 @@
 ghost use Rattle.std.specs.Prelude.{◌≡◌, ◌*◌, ◌^◌, ◌<◌, length, pos, IfOk};
 ghost use Rattle.fixed_num.specs.Ranges.{IsBetween, IsHead};
 ghost use Rattle.project_check.specs.Faultless.{IsFaultless};
-ghost use Rattle.link_eval.specs.Built.{HasHydraulics};
 ghost use Rattle.link_eval.specs.Good.{IsGood, IsGoodLink};
 ghost use Rattle.node_update.specs.NodeLaws.{IsNodeLaw};
-ghost use Rattle.node_update.specs.RuleProps.{node_rule_props};
+ghost use Rattle.link_eval.specs.RuleProps.{rule_props};
 ghost use Rattle.link_eval.specs.Hydraulics.{hydraulics_of, node_law_at, link_law_at, volume_at, mid_area_at};
 
 use crate::build::link_laws;
+use crate::curves::copy_curves;
 use crate::hydraulics::Hydraulics;
 use crate::link_law::LinkLaw;
-use conduit_flow::{conduit_volume, mid_area};
 use net_types::{OutOfMemory, Project};
 use node_update::{NodeLaw, node_laws};
 use std::alloc::Global;
@@ -20,23 +19,26 @@ use std::alloc::Global;
 #[derive(Debug, Drop)]
 pub struct HydraulicLaw {
     pub hydraulics: Hydraulics,
-    pub ghost good: { IsGood hydraulics } by { Prim.hlevel node_rule_props },
+    pub ghost good: { IsGood hydraulics } by { Prim.hlevel rule_props },
 }
 
 impl HydraulicLaw {
-    /// The hydraulics of a faultless project of kinds that are built (`specs/Built.antt`). The only error is want of
-    /// memory.
+    /// The hydraulics of a faultless project. The only error is want of memory.
     ///
-    /// Source: Reference Manual volume II, chapter 3.
+    /// Source: Reference Manual volume II, chapters 3 and 6.
     pub fn build(alloc: Global, project: &Project) -> Result<HydraulicLaw, OutOfMemory>
         requires faultless { IsFaultless project.now }
-        requires built { HasHydraulics project.now }
         ensures { IfOk result (λ law. law.hydraulics ≡ hydraulics_of project.now) }
     {
         let nodes = node_laws(alloc, project)?;
         let links = link_laws(alloc, project)?;
+        let curves = copy_curves(alloc, project.curves.as_slice())?;
         Ok(HydraulicLaw {
-            hydraulics: Hydraulics { nodes, links },
+            hydraulics: Hydraulics {
+                nodes,
+                links,
+                curves,
+            },
         })
     }
 
@@ -49,7 +51,7 @@ impl HydraulicLaw {
         &self.hydraulics.nodes.as_slice()[node as usize]
     }
 
-    /// The volume of water in a link, in mm³, from the heads at its ends in µm.
+    /// The volume of water in a link, in mm³, from the heads at its ends in µm. Only a conduit has one.
     pub fn link_volume(&self, link: u32, near: i64, far: i64) -> i128
         requires link { link < length self.now.hydraulics.links }
         requires near { IsHead near }
@@ -57,11 +59,10 @@ impl HydraulicLaw {
         ensures value { result ≡ volume_at self.now.hydraulics link near far }
         ensures range { IsBetween (pos 0) result (pos (10 ^ 22)) }
     {
-        let law = self.link(link);
-        conduit_volume(&law.conduit, &law.table, near, far)
+        self.link(link).rule.volume(near, far)
     }
 
-    /// The area of flow in the middle of a link, in mm², from the heads at its ends in µm.
+    /// The area of flow in the middle of a link, in mm², from the heads at its ends in µm. Only a conduit has one.
     pub fn mid_area(&self, link: u32, near: i64, far: i64) -> i64
         requires link { link < length self.now.hydraulics.links }
         requires near { IsHead near }
@@ -69,15 +70,15 @@ impl HydraulicLaw {
         ensures value { result ≡ mid_area_at self.now.hydraulics link near far }
         ensures range { IsBetween (pos 0) result (pos (5 * 10 ^ 11)) }
     {
-        let law = self.link(link);
-        mid_area(&law.conduit, &law.table, near, far)
+        self.link(link).rule.mid_area(near, far)
     }
 
     // The law of a link, by its number.
     pub(crate) fn link(&self, link: u32) -> &LinkLaw
         requires { link < length self.now.hydraulics.links }
         ensures value { result.now ≡ link_law_at self.now.hydraulics link }
-        ensures good { IsGoodLink (length self.now.hydraulics.nodes) result.now }
+        ensures good { IsGoodLink
+            (length self.now.hydraulics.nodes) (length self.now.hydraulics.curves) result.now }
     {
         &self.hydraulics.links.as_slice()[link as usize]
     }

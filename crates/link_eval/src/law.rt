@@ -1,8 +1,16 @@
 // The hydraulics of a network, as the trials ask for them.
-ghost use Rattle.link_eval.specs.Hydraulics.{law_of};
+ghost use Rattle.std.specs.Prelude.{◌≡◌, ◌<◌, length};
+ghost use Rattle.fixed_num.specs.Ranges.{IsFlow, IsHead};
+ghost use Rattle.link_eval.specs.Hydraulics.{law_of, rule_share};
 ghost use Rattle.link_eval.specs.LawGood.{law_good};
+ghost use Rattle.link_eval.specs.LinkLaws.{IsLinkRule, NamesOneOf};
+ghost use Rattle.phase_law.specs.Ranges.{LinkFixedInRange};
 
 use crate::hydraulic_law::HydraulicLaw;
+use crate::link_law::LinkRule;
+use crate::orifice::orifice_share;
+use crate::pump::pump_share;
+use crate::weir::weir_share;
 use conduit_flow::conduit_share;
 use phase_law::{LinkFixed, NodeFixed, NodeNext, PhaseLaw, Share};
 
@@ -38,7 +46,7 @@ impl PhaseLaw for HydraulicLaw {
         last: i64,
     ) -> Share {
         let law = self.link(link);
-        conduit_share(&law.conduit, &law.table, fixed, first, near, far, last)
+        self.rule_share(&law.rule, law.first, fixed, first, near, far, last)
     }
 
     fn node_next(
@@ -53,5 +61,45 @@ impl PhaseLaw for HydraulicLaw {
     ) -> NodeNext {
         self.node(node)
             .next(fixed, first, inflow, outflow, area, last)
+    }
+}
+
+impl HydraulicLaw {
+    // The share of a link of this rule that begins at this node, in a trial.
+    fn rule_share(
+        &self,
+        rule: &LinkRule,
+        node: u32,
+        fixed: &LinkFixed,
+        first: bool,
+        near: i64,
+        far: i64,
+        last: i64,
+    ) -> Share
+        requires rule { IsLinkRule rule.now }
+        requires curve { NamesOneOf (length self.now.hydraulics.curves) rule.now }
+        requires node { node < length self.now.hydraulics.nodes }
+        requires fixed { LinkFixedInRange fixed.now }
+        requires near { IsHead near }
+        requires far { IsHead far }
+        requires last { IsFlow last }
+        ensures { result ≡ rule_share self.now.hydraulics rule.now node fixed.now first near far last }
+    {
+        match rule {
+            LinkRule::Conduit(shelf) => {
+                let law = shelf.get();
+                conduit_share(&law.conduit, &law.table, fixed, first, near, far, last)
+            }
+            LinkRule::Pump(shelf) => {
+                let law = shelf.get();
+                let curve = &self.hydraulics.curves.as_slice()[law.curve as usize];
+                let volume = self.node(node).volume(near);
+                pump_share(law, curve, volume, fixed, first, near, far, last)
+            }
+            LinkRule::Orifice(shelf) => {
+                orifice_share(shelf.get(), fixed, first, near, far, last)
+            }
+            LinkRule::Weir(shelf) => weir_share(shelf.get(), fixed, first, near, far, last),
+        }
     }
 }

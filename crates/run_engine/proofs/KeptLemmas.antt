@@ -17,7 +17,7 @@ use Rattle.trial_model.specs.declared.step.StepEnd.{StepEnd}
 use Rattle.run_engine.specs.Kept.{AreFloodsAt, IsKept, IsMomentAt, IsStateAt, IsTotalAt}
 use Rattle.run_engine.specs.Progress.{IsAt}
 use Rattle.run_engine.specs.Results.{account_at, end_at, floods_at, total_after}
-use Rattle.run_engine.specs.Ready.{IsReady}
+use Rattle.project_check.specs.Faultless.{IsFaultless}
 use Rattle.run_engine.specs.declared.kept.Kept.{Kept}
 use Rattle.run_engine.specs.States.{RunState, length_at, moment_at, nets_at, next_nets, opening, project_law, step_end}
 use Rattle.run_engine.proofs.OpeningLemmas.{opening_fits, opening_sums}
@@ -68,7 +68,7 @@ pub end_here : (project : Project) (k : ℕ) (finish ms : ℤ) (old : Nets) (end
 end_here project k finish ms old end at moment length ended = ended ∙ rw (moment, length, at) (sym (end_is_at project k))
 
 -- ---- the beginning
-pub opening_at : (project : Project) (nets : Nets) → IsGood (hydraulics_of project) → IsReady project → nets ≡ opening project → IsStateAt project 0 nets
+pub opening_at : (project : Project) (nets : Nets) → IsGood (hydraulics_of project) → IsFaultless project → nets ≡ opening project → IsStateAt project 0 nets
 opening_at project nets good ready is = record {
   same = is ∙ sym (ap (λ (s : RunState). s.nets) (state_none project));
   fits = subst (Fits (project_law project)) (sym is) (opening_fits project good ready);

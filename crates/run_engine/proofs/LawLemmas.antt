@@ -5,7 +5,8 @@ use Rattle.std.proofs.lemmas.List.FromFn.{get_or-map-range_with_len, length-map-
 use Rattle.link_eval.specs.Good.{IsGood}
 use Rattle.link_eval.specs.LawGood.{law_good}
 use Rattle.link_eval.specs.declared.hydraulics.Hydraulics.{Hydraulics}
-use Rattle.link_eval.specs.Hydraulics.{hydraulics_of, law_of, link_law_of, no_node_law, node_law_at}
+use Rattle.link_eval.specs.Hydraulics.{hydraulics_of, law_of, no_node_law, node_law_at}
+use Rattle.link_eval.specs.LinkLaws.{link_law_of}
 use Rattle.net_types.specs.declared.project.Project.{Project}
 use Rattle.node_update.specs.NodeLaws.{node_law_of}
 use Rattle.phase_law.specs.Laws.{IsLaw}

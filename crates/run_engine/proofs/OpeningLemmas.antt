@@ -1,11 +1,11 @@
 -- The opening state: its parts, its ranges and its sums.
-use Rattle.std.proofs.Common.{◌≡◌, ◌∙◌, ℕ, ◌*◌, ◌^◌, ◌<◌, ◌≤◌, true, ℤ, pos, List}
+use Rattle.std.proofs.Common.{◌≡◌, ◌∙◌, ℕ, ◌*◌, ◌^◌, ◌<◌, ◌≤◌, Bool, true, false, if◌then◌else◌, ℤ, pos, List}
 use Rattle.std.proofs.Common.{length, replicate, refl, sym, subst, ap, arith}
 use Rattle.std.proofs.lemmas.Int.{ints}
 use Rattle.std.proofs.lemmas.List.{get_or-replicate, length-replicate}
 use Rattle.std.proofs.lemmas.List.Elements.{All-get_or}
 use Rattle.std.proofs.lemmas.List.FromFn.{length-map-range_with_len}
-use Rattle.fixed_num.specs.Ranges.{IsFlow, IsStepLength, IsHead, IsElevation, IsDepth}
+use Rattle.fixed_num.specs.Ranges.{IsFlow, IsStepLength, IsHead, IsElevation, IsDepth, IsPart}
 use Rattle.fixed_num.proofs.Bounds.{le_number, within_add, within_between, within_cut}
 use Rattle.fixed_num.proofs.Bounds.{within_minus, within_number, within_up}
 use Rattle.link_eval.specs.Good.{IsGood}
@@ -17,6 +17,7 @@ use Rattle.net_types.specs.declared.network.Stage.{Stage}
 use Rattle.net_types.specs.declared.network.Stage.TheVariants.{Free, Normal, Fixed, Tidal, Series}
 use Rattle.net_types.specs.declared.options.FlowUnits.{FlowUnits}
 use Rattle.net_types.specs.declared.project.Project.{Project}
+use Rattle.net_types.specs.declared.network.Link.{Link}
 use Rattle.net_types.specs.declared.network.LinkKind.{LinkKind}
 use Rattle.net_types.specs.declared.network.LinkKind.TheVariants.{Conduit, Pump, Orifice, Weir}
 use Rattle.net_types.specs.Ranges.{LinkInRange, LinkKindInRange, NodeKindInRange, StageInRange}
@@ -35,8 +36,8 @@ use Rattle.trial_model.proofs.FlowLemmas.{flow_sums_most, listed_inflows, listed
 use Rattle.trial_model.proofs.RangeLemmas.{listed}
 use Rattle.link_eval.specs.LawGood.{head_in as within_head, head_of_law as head_in}
 use Rattle.run_engine.specs.Laterals.{laterals_at, node_lateral}
-use Rattle.run_engine.specs.Ready.{IsReady}
-use Rattle.run_engine.specs.States.{kind_flow, kind_head, opening, opening_flow}
+use Rattle.project_check.specs.Faultless.{IsFaultless}
+use Rattle.run_engine.specs.States.{kind_flow, kind_head, kind_setting, opening, opening_flow, opening_link}
 use Rattle.run_engine.specs.States.{opening_head, opening_inflow, opening_level, opening_node, opening_outflow}
 use Rattle.run_engine.specs.States.{project_law}
 use Rattle.run_engine.proofs.LawLemmas.{law_links, law_nodes, project_good, project_law_good}
@@ -88,13 +89,13 @@ laterals_count project moment is =
     ap (λ (xs : List ℤ). length xs) is ∙ length-map-range_with_len (λ k. node_lateral project k moment) 0 (length project.nodes)
 
 -- ---- of nodes and links by their numbers
-module _ {project : Project} (r : IsReady project) where
+module _ {project : Project} (r : IsFaultless project) where
   pub stage_in : (moment : ℤ) (n : ℕ) → n < length project.nodes → IsHead (stage_at project n moment)
   stage_in moment n inside = within_up (stage_within project moment (node_of project.nodes n).kind (run_node project r n inside).kind_in) tt
 
   opened_flow : (l : ℕ) → l < length project.links → IsFlow (opening_flow project.links l)
   opened_flow l inside =
-      kind_flow_in (link_at project.links l).kind (All-get_or LinkInRange project.links l no_project_link inside r.faultless.sound.ranges.links).kind_in
+      kind_flow_in (link_at project.links l).kind (All-get_or LinkInRange project.links l no_project_link inside r.sound.ranges.links).kind_in
 
   law_flow : (l : ℕ) → l < (project_law project).links → IsFlow (opening_flow project.links l)
   law_flow l inside = opened_flow l (omega (arith, law_links project))
@@ -114,11 +115,22 @@ no_length = record { least = omega (arith, ints); most = omega (arith, ints); ev
 no_flow : IsFlow (pos 0)
 no_flow = record { within = omega arith }
 
-no_link_in : LinkFixedInRange no_link
-no_link_in = record {
+-- a link that is on, off or open
+on_or_off : (on : Bool) → IsPart (if on then pos 1_000_000 else pos 0)
+on_or_off true = record { from = omega (arith, ints); to = omega (arith, ints) }
+on_or_off false = record { from = omega (arith, ints); to = omega (arith, ints) }
+
+kind_setting_in : (kind : LinkKind) → IsPart (kind_setting kind)
+kind_setting_in (Conduit long n6 z1 z2 q0 q_max entry6 exit6 avg6 flap) = on_or_off true
+kind_setting_in (Pump curve on startup shutoff) = on_or_off on
+kind_setting_in (Orifice bottom offset cd6 flap) = on_or_off true
+kind_setting_in (Weir notch crest cd6 flap contractions) = on_or_off true
+
+opening_link_in : (links : List Link) (l : ℕ) → LinkFixedInRange (opening_link links l)
+opening_link_in links l = record {
   flow = no_flow;
   area = record { from = omega (arith, ints); to = omega (arith, ints) };
-  setting = record { from = omega (arith, ints); to = omega (arith, ints) };
+  setting = kind_setting_in (link_at links l).kind;
   length = no_length;
 }
 
@@ -134,7 +146,7 @@ amounts_in inflow outflow e1 e2 e3 h1 h2 = record {
 }
 
 -- ---- what a node begins with
-module _ {project : Project} (good : IsGood (hydraulics_of project)) (r : IsReady project) where
+module _ {project : Project} (good : IsGood (hydraulics_of project)) (r : IsFaultless project) where
   pub opened_node_in : (n : ℕ) → n < length project.nodes → NodeFixedInRange (project_law project) (opening_node project n)
   opened_node_in n inside = record {
     head = head_in (hydraulics_of project) zero_within;
@@ -167,7 +179,7 @@ module _ {project : Project} (good : IsGood (hydraulics_of project)) (r : IsRead
 
 -- ---- the opening state
 -- it fits the law
-pub opening_fits : (project : Project) → IsGood (hydraulics_of project) → IsReady project → Fits (project_law project) (opening project)
+pub opening_fits : (project : Project) → IsGood (hydraulics_of project) → IsFaultless project → Fits (project_law project) (opening project)
 unfolding opening
 opening_fits project good r =
     let law = project_law project in
@@ -203,8 +215,8 @@ opening_fits project good r =
         each = λ n inside. subst (λ (z : ℤ). HeadInRange law z) (sym (get_or-replicate law.nodes n (pos 0) (pos 0) inside)) (head_in h zero_within);
       };
       links = record {
-        count = length-replicate law.links no_link;
-        each = λ l inside. subst (λ (x : LinkFixed). LinkFixedInRange x) (sym (get_or-replicate law.links l no_link no_link inside)) no_link_in;
+        count = length-map-range_with_len (opening_link project.links) 0 law.links;
+        each = λ l inside. subst (λ (x : LinkFixed). LinkFixedInRange x) (sym (listed (opening_link project.links) law.links l no_link inside)) (opening_link_in project.links l);
       };
       nodes = record {
         count = length-map-range_with_len (opening_node project) 0 law.nodes;
@@ -269,7 +281,7 @@ pub outflow_at : (project : Project) {outflows : List ℤ} (n : ℕ) → n < len
 outflow_at project n inside is = ap (λ (xs : List ℤ). number xs n) is ∙ listed (opening_outflow project) (length project.nodes) n (pos 0) inside
 
 -- what a node begins with, from the lists of it, in the law of equal hydraulics
-module _ (project : Project) (h : Hydraulics) (same : h ≡ hydraulics_of project) (good : IsGood h) (r : IsReady project) (n : ℕ) (inside : n < length project.nodes) where
+module _ (project : Project) (h : Hydraulics) (same : h ≡ hydraulics_of project) (good : IsGood h) (r : IsFaultless project) (n : ℕ) (inside : n < length project.nodes) where
   project_is_good : IsGood (hydraulics_of project)
   project_is_good = project_good h good project same
 
@@ -292,23 +304,25 @@ module _ (project : Project) (h : Hydraulics) (same : h ≡ hydraulics_of projec
   unfolding opening_level
   opened_level_is e f g = rw (same, e, f, g) refl
 
--- a state in which nothing has happened, with the heads, flows, nodes and sums of the beginning
-pub opening_is : (project : Project) (s : Nets) {h : Hydraulics} {heads flows : List ℤ} {nodes : List NodeFixed}
+-- a state in which nothing has happened, with the heads, flows, links, nodes and sums of the beginning
+pub opening_is : (project : Project) (s : Nets) {h : Hydraulics} {heads flows : List ℤ} {links : List LinkFixed} {nodes : List NodeFixed}
     → h ≡ hydraulics_of project → s ≡ resting (length project.nodes) (length project.links)
     → heads ≡ list_of (opening_head project) (length project.nodes)
     → flows ≡ list_of (opening_flow project.links) (length project.links)
+    → links ≡ list_of (opening_link project.links) (length project.links)
     → nodes ≡ list_of (opening_node project) (length project.nodes)
     → ◌≡◌ {A = Nets}
     (record s {
       heads = heads;
       flows = flows;
+      links = links;
       nodes = nodes;
       inflows = list_of (λ n. pos (inflow_of (law_of h) (number flows) n)) (law_of h).nodes;
       outflows = list_of (λ n. pos (outflow_of (law_of h) (number flows) n)) (law_of h).nodes;
     })
     (opening project)
 unfolding opening
-opening_is project s {h} {heads} {flows} {nodes} same rests e1 e2 e3 =
+opening_is project s {h} {heads} {flows} {links} {nodes} same rests e1 e2 e3 e4 =
     let law = project_law project in
     let flow = opening_flow project.links in
     let count = sym (law_nodes project) in
@@ -320,24 +334,26 @@ opening_is project s {h} {heads} {flows} {nodes} same rests e1 e2 e3 =
     (opened_outflows project same e2 ∙ ap (list_of (opening_outflow project)) count)
     (ap (λ (t : Nets). t.areas) rests ∙ ap (λ (n : ℕ). replicate n (pos 0)) count)
     (ap (λ (t : Nets). t.read_heads) rests ∙ ap (λ (n : ℕ). replicate n (pos 0)) count)
-    (ap (λ (t : Nets). t.links) rests ∙ ap (λ (n : ℕ). replicate n no_link) (sym (law_links project)))
-    (e3 ∙ ap (list_of (opening_node project)) count)
+    (e3 ∙ ap (list_of (opening_link project.links)) (sym (law_links project)))
+    (e4 ∙ ap (list_of (opening_node project)) count)
     (ap (λ (t : Nets). t.least) rests)
 
 -- the same, where the heads come last
-pub opened_with : (project : Project) (s t : Nets) {h : Hydraulics} {heads flows : List ℤ} {nodes : List NodeFixed}
+pub opened_with : (project : Project) (s t : Nets) {h : Hydraulics} {heads flows : List ℤ} {links : List LinkFixed} {nodes : List NodeFixed}
     → h ≡ hydraulics_of project → s ≡ resting (length project.nodes) (length project.links)
     → heads ≡ list_of (opening_head project) (length project.nodes)
     → flows ≡ list_of (opening_flow project.links) (length project.links)
+    → links ≡ list_of (opening_link project.links) (length project.links)
     → nodes ≡ list_of (opening_node project) (length project.nodes)
     → t ≡ record s {
       flows = flows;
+      links = links;
       nodes = nodes;
       inflows = list_of (λ n. pos (inflow_of (law_of h) (number flows) n)) (law_of h).nodes;
       outflows = list_of (λ n. pos (outflow_of (law_of h) (number flows) n)) (law_of h).nodes;
     }
     → ◌≡◌ {A = Nets} (record t { heads = heads }) (opening project)
-opened_with project s t {h} {heads} same rests e1 e2 e3 e = ap (λ (x : Nets). record x { heads = heads }) e ∙ opening_is project s same rests e1 e2 e3
+opened_with project s t {h} {heads} same rests e1 e2 e3 e4 e = ap (λ (x : Nets). record x { heads = heads }) e ∙ opening_is project s same rests e1 e2 e3 e4
 
 pub heads_length : (project : Project) {s : Nets} → s ≡ resting (length project.nodes) (length project.links) → length s.heads ≡ length project.nodes
 heads_length project e = ap (λ (t : Nets). length t.heads) e ∙ length-replicate (length project.nodes) (pos 0)

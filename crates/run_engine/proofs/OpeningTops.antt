@@ -16,7 +16,7 @@ use Rattle.node_update.specs.declared.node_law.NodeLaw.{NodeLaw}
 use Rattle.project_check.specs.FullHeight.{full_height_of}
 use Rattle.project_check.proofs.LawLemmas.{faultless_good}
 use Rattle.trial_model.proofs.RangeLemmas.{listed}
-use Rattle.run_engine.specs.Ready.{IsReady}
+use Rattle.project_check.specs.Faultless.{IsFaultless}
 use Rattle.run_engine.specs.States.{kind_head, opening, opening_head, opening_level, project_law}
 use Rattle.run_engine.proofs.LawLemmas.{law_nodes, node_law_is}
 use Rattle.run_engine.proofs.RunLemmas.{run_node}
@@ -35,15 +35,15 @@ kind_below project (Junction surcharge pond) invert y0 level full y_max conduit 
 kind_below project (Outfall stage gated) invert y0 level full y_max conduit is below e = let never : ⊥ = cc in absurd never
 kind_below project (Storage shape) invert y0 level full y_max conduit is below e = room_below invert y0 full (pos 0) (omega (arith, ints)) below
 
-begins_below : (project : Project) → IsReady project → (n : ℕ) → n < length project.nodes → is_outfall_rule (node_law_of project n).rule ≡ false
+begins_below : (project : Project) → IsFaultless project → (n : ℕ) → n < length project.nodes → is_outfall_rule (node_law_of project n).rule ≡ false
     → opening_head project n ≤ℤ (node_law_of project n).top
 unfolding node_law_of
 begins_below project r n inside rule =
     let node = node_of project.nodes n in
     kind_below project node.kind node.invert node.y0 (opening_level project n) (full_height_of project n) node.y_max (conduit_to project n)
-    (run_node project r n inside).kind_in ((faultless_good project r.faultless).nodes n inside).depth rule
+    (run_node project r n inside).kind_in ((faultless_good project r).nodes n inside).depth rule
 
-pub opening_tops : (project : Project) → IsReady project → IsBelowTops (hydraulics_of project) (opening project)
+pub opening_tops : (project : Project) → IsFaultless project → IsBelowTops (hydraulics_of project) (opening project)
 unfolding opening
 opening_tops project r = record {
   each = λ n inside other.

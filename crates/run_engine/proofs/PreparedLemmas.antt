@@ -20,9 +20,11 @@ use Rattle.trial_model.specs.Start.{no_link, no_node}
 use Rattle.trial_model.proofs.RangeLemmas.{listed}
 use Rattle.link_eval.specs.LawGood.{head_in as head_of, head_of_law as head_in}
 use Rattle.run_engine.specs.Amounts.{AreAmounts, HaveLaterals}
-use Rattle.run_engine.specs.Ready.{IsReady}
+use Rattle.project_check.specs.Faultless.{IsFaultless}
 use Rattle.run_engine.specs.States.{link_start, node_start, prepared, prepared_link, prepared_node, project_law}
-use Rattle.run_engine.proofs.LawLemmas.{law_nodes, link_in, project_law_good}
+use Rattle.run_engine.specs.Settings.{settings_in}
+use Rattle.run_engine.proofs.SettingLemmas.{settings_part}
+use Rattle.run_engine.proofs.LawLemmas.{law_links, law_nodes, link_in, project_law_good}
 use Rattle.run_engine.proofs.OpeningLemmas.{lateral_in, stage_in}
 
 -- ---- the net inflow of a node
@@ -73,22 +75,24 @@ laterals_are {law} {nodes} {xs} {count} fit e same =
 
 -- ---- the state made ready
 -- part by part
-pub prepared_is : (project : Project) (finish dt : ℤ) (s : Nets) {h : Hydraulics} {links : List LinkFixed} {nodes : List NodeFixed} → h ≡ hydraulics_of project
-    → links ≡ list_of (link_start h s.heads s.flows dt) (law_of h).links
+pub prepared_is : (project : Project) (finish dt : ℤ) (s : Nets) {h : Hydraulics} {settings : List ℤ} {links : List LinkFixed} {nodes : List NodeFixed} → h ≡ hydraulics_of project
+    → settings ≡ settings_in project (finish -ℤ dt) s
+    → links ≡ list_of (λ l. link_start h s.heads s.flows (number settings l) dt l) (law_of h).links
     → nodes ≡ list_of (node_start project s.heads s.inflows s.outflows s.nodes finish dt) (length project.nodes)
     → ◌≡◌ {A = Nets} (record s { links = links; nodes = nodes }) (prepared project finish dt s)
 unfolding prepared
-prepared_is project finish dt s {h} {links} {nodes} same e1 e2 =
-    let links_are : links ≡ list_of (prepared_link project s dt) (project_law project).links =
-    e1 ∙ ap (λ (x : Hydraulics). list_of (link_start x s.heads s.flows dt) (law_of x).links) same in
+prepared_is project finish dt s {h} {settings} {links} {nodes} same e0 e1 e2 =
+    let links_are : links ≡ list_of (prepared_link project s finish dt) (project_law project).links =
+    e1 ∙ ap (λ (x : Hydraulics). list_of (λ l. link_start x s.heads s.flows (number settings l) dt l) (law_of x).links) same
+    ∙ ap (λ (xs : List ℤ). list_of (λ l. link_start (hydraulics_of project) s.heads s.flows (number xs l) dt l) (project_law project).links) e0 in
     let nodes_are : nodes ≡ list_of (prepared_node project s finish dt) (project_law project).nodes =
     e2 ∙ ap (list_of (prepared_node project s finish dt)) (sym (law_nodes project)) in
     cc (links_are, nodes_are)
 
 -- in range
-module _ {project : Project} (good : IsGood (hydraulics_of project)) (r : IsReady project) {s : Nets} (fits : Fits (project_law project) s)
+module _ {project : Project} (good : IsGood (hydraulics_of project)) (r : IsFaultless project) {s : Nets} (fits : Fits (project_law project) s)
     (finish : ℤ) {dt : ℤ} (length_in : IsStepLength dt) where
-  link_ready : (l : ℕ) → l < (project_law project).links → LinkFixedInRange (prepared_link project s dt l)
+  link_ready : (l : ℕ) → l < (project_law project).links → LinkFixedInRange (prepared_link project s finish dt l)
   link_ready l inside =
       let ends = (project_law_good project good).ends_in l inside in
       let near = head_of (hydraulics_of project) (fits.heads.each _ ends.first) in
@@ -97,7 +101,7 @@ module _ {project : Project} (good : IsGood (hydraulics_of project)) (r : IsRead
       record {
         flow = fits.flows.each l inside;
         area = record { from = area.from; to = area_fits area };
-        setting = record { from = omega (arith, ints); to = omega (arith, ints) };
+        setting = settings_part project (finish -ℤ dt) s l r (fits.links.each l inside).setting (omega (arith, law_links project));
         length = length_in;
       }
     where
@@ -126,8 +130,8 @@ module _ {project : Project} (good : IsGood (hydraulics_of project)) (r : IsRead
         read_heads = fits.read_heads;
         least = fits.least;
         links = record {
-          count = length-map-range_with_len (prepared_link project s dt) 0 law.links;
-          each = λ l inside. subst (λ (x : LinkFixed). LinkFixedInRange x) (sym (listed (prepared_link project s dt) law.links l no_link inside)) (link_ready l inside);
+          count = length-map-range_with_len (prepared_link project s finish dt) 0 law.links;
+          each = λ l inside. subst (λ (x : LinkFixed). LinkFixedInRange x) (sym (listed (prepared_link project s finish dt) law.links l no_link inside)) (link_ready l inside);
         };
         nodes = record {
           count = length-map-range_with_len (prepared_node project s finish dt) 0 law.nodes;

@@ -9,7 +9,7 @@ use Rattle.net_types.specs.Records.{no_node, node_at}
 use Rattle.net_types.specs.declared.project.Project.{Project}
 use Rattle.project_check.proofs.LawLemmas.{faultless_good}
 use Rattle.report_writer.specs.DateTexts.{HasCalendarDates}
-use Rattle.run_engine.specs.Ready.{IsReady}
+use Rattle.project_check.specs.Faultless.{IsFaultless}
 use Rattle.time_series.specs.LateralFlow.{IsRunMoment}
 use Rattle.run_engine.specs.Times.{AreRunOptions, IsRunTime, duration_of}
 
@@ -22,11 +22,11 @@ even_between a b e f h = omega (arith, ints, e, f, h)
 order : (a b : ℤ) → b ≤ℤ a → pos 0 ≤ℤ (a -ℤ b)
 order a b h = omega (arith, ints, h)
 
-pub run_options : (project : Project) → IsReady project → AreRunOptions project.options
+pub run_options : (project : Project) → IsFaultless project → AreRunOptions project.options
 run_options project r =
     let options = project.options in
-    let in_range = r.faultless.sound.options in
-    let times = (faultless_good project r.faultless).times in
+    let in_range = r.sound.options in
+    let times = (faultless_good project r).times in
     let ordered = at_least options.finish options.start times.order in
     record {
       duration = record {
@@ -43,23 +43,23 @@ run_options project r =
 dated : {moment : ℤ} → IsMoment moment → IsCalendarMoment moment
 dated {moment} m = (m.from, omega (arith, ints, m.to))
 
-pub run_dates : (project : Project) → IsReady project → HasCalendarDates project.options
-run_dates project r = let in_range = r.faultless.sound.options in record { start = dated in_range.start_in; finish = dated in_range.finish_in }
+pub run_dates : (project : Project) → IsFaultless project → HasCalendarDates project.options
+run_dates project r = let in_range = r.sound.options in record { start = dated in_range.start_in; finish = dated in_range.finish_in }
 
 -- the moments of a run lie in the years of the calendar: it ends at one of them
 before_end : (start finish moment : ℤ) → IsMoment start → IsMoment finish → pos 0 ≤ℤ moment → moment ≤ℤ (finish -ℤ start) → IsMoment (start +ℤ moment)
 before_end start finish moment s f least most = record { from = omega (arith, ints, s.from, least); to = omega (arith, ints, f.to, most) }
 
-pub run_start : (project : Project) → IsReady project → IsRunMoment project (pos 0)
+pub run_start : (project : Project) → IsFaultless project → IsRunMoment project (pos 0)
 run_start project r =
-    let start = r.faultless.sound.options.start_in in
+    let start = r.sound.options.start_in in
     record { from = omega (arith, ints, start.from); to = omega (arith, ints, start.to) }
 
-pub run_moment : (project : Project) → IsReady project → {moment : ℤ} → IsRunTime project.options moment → IsRunMoment project moment
+pub run_moment : (project : Project) → IsFaultless project → {moment : ℤ} → IsRunTime project.options moment → IsRunMoment project moment
 run_moment project r {moment} m =
     let options = project.options in
-    let in_range = r.faultless.sound.options in
+    let in_range = r.sound.options in
     before_end options.start options.finish moment in_range.start_in in_range.finish_in m.between.from m.between.to
 
-pub run_node : (project : Project) → IsReady project → (n : ℕ) → n < length project.nodes → NodeInRange (node_at project.nodes n)
-run_node project r n inside = All-get_or NodeInRange project.nodes n no_node inside r.faultless.sound.ranges.nodes
+pub run_node : (project : Project) → IsFaultless project → (n : ℕ) → n < length project.nodes → NodeInRange (node_at project.nodes n)
+run_node project r n inside = All-get_or NodeInRange project.nodes n no_node inside r.sound.ranges.nodes

@@ -22,7 +22,7 @@ use Rattle.runoff_states.specs.declared.kept.Runoff.{Runoff}
 use Rattle.runoff_states.proofs.KeptLemmas.{moment_next, states_more}
 use Rattle.runoff_states.proofs.TimeLemmas.{count_done, one_count}
 use Rattle.run_engine.specs.Laterals.{IsRunoffAt}
-use Rattle.run_engine.specs.Ready.{IsReady}
+use Rattle.project_check.specs.Faultless.{IsFaultless}
 
 -- ---- the soil of each subcatchment
 soil_is : (infil : Option Infil) → IfSome infil InfilInRange → IsSome infil → IfSome infil HasGoodRates
@@ -41,17 +41,17 @@ soil_is None r s g = absurd s
 sub_is : (sub : Sub) → SubInRange sub → IsGoodSub sub → IsInfil (infil_or sub.infil)
 sub_is sub r g = soil_is sub.infil r.infil_in g.has_infil g.rates
 
-pub run_soil : (project : Project) → IsReady project → HasInfiltrations project
+pub run_soil : (project : Project) → IsFaultless project → HasInfiltrations project
 run_soil project r =
-    let ranges = r.faultless.sound.ranges.subs in
-    let good = (faultless_good project r.faultless).subs in
+    let ranges = r.sound.ranges.subs in
+    let good = (faultless_good project r).subs in
     let none = sub_at [] 0 in
     All-from_get_or (λ (sub : Sub). IsInfil (infil_or sub.infil)) project.subs none
     (λ k inside. sub_is (sub_at project.subs k) (All-get_or SubInRange project.subs k none inside ranges)
     (All-get_or IsGoodSub project.subs k none inside good))
 
-pub run_wet : (project : Project) → IsReady project → IsRunoffStep project.options.wet_ms
-run_wet project r = r.faultless.sound.options.wet_in
+pub run_wet : (project : Project) → IsFaultless project → IsRunoffStep project.options.wet_ms
+run_wet project r = r.sound.options.wet_in
 
 -- ---- the steps that are done
 -- a moment before the end of the longest run, by which all these steps have ended, and which the next one doesn't end by
@@ -60,7 +60,7 @@ pub record IsLastAt (project : Project) (moment : ℤ) (steps : ℕ) (runoff : R
   pub begun : IsBetween (pos 0) runoff.begin moment
 
 -- the runoff of an earlier moment
-pub last_of : {project : Project} {earlier moment : ℤ} {runoff : Runoff} → IsReady project → IsBetween (pos 0) earlier moment
+pub last_of : {project : Project} {earlier moment : ℤ} {runoff : Runoff} → IsFaultless project → IsBetween (pos 0) earlier moment
     → IsRunoffAt project earlier runoff → IsLastAt project moment (steps_done project.options.wet_ms earlier) runoff
 last_of {project} {earlier} {moment} {runoff} r between at =
     let done = count_done project.options.wet_ms earlier (run_wet project r) between.from in
@@ -78,7 +78,7 @@ last_of {project} {earlier} {moment} {runoff} r between at =
     no_less n (negsuc ms) h = absurd (omega (arith, ints, h))
 
 -- where no step is due at a moment, the runoff is that of the moment
-pub at_of : {project : Project} {moment : ℤ} {steps : ℕ} {runoff : Runoff} → IsReady project
+pub at_of : {project : Project} {moment : ℤ} {steps : ℕ} {runoff : Runoff} → IsFaultless project
     → IsLastAt project moment steps runoff → ¬ ((runoff.begin +ℤ project.options.wet_ms) ≤ℤ moment)
     → IsRunoffAt project moment runoff
 at_of {project} {moment} {steps} {runoff} r last past =
@@ -103,7 +103,7 @@ step_room few last = states_more (room _ _ last.begun.to few) last.after.range
     room begin moment h k = omega (arith, ints, h, k)
 
 -- a step that is due ends by the moment
-pub last_more : {project : Project} {moment : ℤ} {steps : ℕ} {old new : Runoff} → IsReady project
+pub last_more : {project : Project} {moment : ℤ} {steps : ℕ} {old new : Runoff} → IsFaultless project
     → IsLastAt project moment steps old → (old.begin +ℤ project.options.wet_ms) ≤ℤ moment
     → IsRunoffAfter project (start_state project) (pos 0) (suc steps) new → IsLastAt project moment (suc steps) new
 last_more {project} {moment} {steps} {old} {new} r last due after =
@@ -118,12 +118,12 @@ last_more {project} {moment} {steps} {old} {new} r last due after =
     }
 
 -- in the beginning none is done
-pub opened : {project : Project} {runoff : Runoff} → IsReady project
+pub opened : {project : Project} {runoff : Runoff} → IsFaultless project
     → IsRunoffAfter project (start_state project) (pos 0) 0 runoff → IsRunoffAt project (pos 0) runoff
 opened {project} {runoff} r after = at_of r (record {
-    after = after;
-    begun = record { from = omega (arith, ints, after.begins, none project.options.wet_ms); to = omega (arith, ints, after.begins, none project.options.wet_ms) };
-  }) (first runoff.begin project.options.wet_ms (after.begins ∙ none project.options.wet_ms) (run_wet project r).from)
+  after = after;
+  begun = record { from = omega (arith, ints, after.begins, none project.options.wet_ms); to = omega (arith, ints, after.begins, none project.options.wet_ms) };
+}) (first runoff.begin project.options.wet_ms (after.begins ∙ none project.options.wet_ms) (run_wet project r).from)
   where
     none : (ms : ℤ) → pos 0 *ℤ ms ≡ pos 0
     none ms = omega (arith, ints)

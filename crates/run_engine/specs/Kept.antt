@@ -15,7 +15,8 @@ use Rattle.trial_model.specs.declared.nets.Nets.{Nets}
 use Rattle.run_engine.specs.declared.kept.Kept.{Kept}
 use Rattle.run_engine.specs.Results.{account_at, counts_after, floods_at}
 use Rattle.run_engine.specs.Laterals.{IsRunoffAt}
-use Rattle.run_engine.specs.Ready.{IsReady}
+use Rattle.run_engine.specs.SettingRoom.{HasPlaces}
+use Rattle.project_check.specs.Faultless.{IsFaultless}
 use Rattle.run_engine.specs.States.{moment_at, nets_at, project_law}
 use Rattle.run_engine.specs.Times.{goes_on, IsRunTime}
 
@@ -68,15 +69,16 @@ pub record AreCountsAt (project : Project) (k : ℕ) (counts : RunCounts) : Type
   pub trials : counts.trials ≤ 20 * k
   pub unsettled : counts.unsettled ≤ k
 
--- all that a run keeps; the state before and the lateral inflows are only room for them
+-- all that a run keeps; the state before, the lateral inflows and the settings are only room for them
 pub record IsKept (project : Project) (h : Hydraulics) (kept : Kept) : Type 0 where
-  pub ready : IsReady project
+  pub ready : IsFaultless project
   pub law : h ≡ hydraulics_of project
   pub clock : IsMomentAt project kept.counts.steps kept.moment
   pub now : IsStateAt project kept.counts.steps kept.nets
   pub room : Fits (project_law project) kept.before
   pub lateral_room : length kept.laterals ≡ length project.nodes
   pub runoff : IsRunoffAt project kept.moment kept.runoff
+  pub setting_room : HasPlaces project kept.room
   pub flood_room : length kept.floods ≡ length project.nodes
   pub summed : AreSumsOf project (kept.counts.steps + 1) kept.sums
   pub totalled : IsTotalAt project kept.counts.steps kept.total

@@ -1,7 +1,8 @@
 pub mod Times
 pub mod Laterals
+pub mod Settings
+pub mod SettingRoom
 pub mod States
-pub mod Ready
 pub mod Amounts
 pub mod Results
 pub mod Report

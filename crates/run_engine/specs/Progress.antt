@@ -7,7 +7,7 @@ use Rattle.summaries.specs.declared.link_summary.LinkSummary.{LinkSummary}
 use Rattle.summaries.specs.declared.node_summary.NodeSummary.{NodeSummary}
 use Rattle.trial_model.specs.declared.nets.Nets.{Nets}
 use Rattle.run_engine.specs.Results.{total_after, counts_after, node_summaries, link_summaries}
-use Rattle.run_engine.specs.Ready.{IsReady}
+use Rattle.project_check.specs.Faultless.{IsFaultless}
 use Rattle.run_engine.specs.States.{moment_at, nets_at, steps_of}
 use Rattle.run_engine.specs.Times.{goes_on}
 
@@ -22,7 +22,7 @@ pub record Progress : Type 0 where
 
 -- the run of a project that can be run has made its first k steps
 pub record IsAt (run : Progress) (k : ℕ) : Type 0 where
-  pub ready : IsReady run.project
+  pub ready : IsFaultless run.project
   pub within : k ≤ steps_of run.project
   pub nets : run.nets ≡ nets_at run.project k
   pub total : run.total ≡ total_after run.project k

@@ -15,13 +15,13 @@ use Rattle.trial_model.specs.Fits.{node_fixed_at}
 use Rattle.fixed_num.specs.Lists.{number, list_of}
 use Rattle.fixed_num.specs.Sums.{below}
 use Rattle.trial_model.specs.RoutingStep.{end_of, trials}
-use Rattle.trial_model.specs.Start.{no_link}
 use Rattle.trial_model.specs.Trial.{inflow_of, outflow_of}
 use Rattle.link_eval.specs.declared.hydraulics.Hydraulics.{Hydraulics}
 use Rattle.link_eval.specs.Hydraulics.{hydraulics_of, law_of, mid_area_at}
 use Rattle.net_types.specs.Records.{link_at, node_at as node_of}
 use Rattle.time_series.specs.Stages.{stage_at}
 use Rattle.run_engine.specs.Laterals.{node_lateral}
+use Rattle.run_engine.specs.Settings.{settings_in}
 use Rattle.run_engine.specs.Times.{goes_on, length_of}
 
 -- the law of a project
@@ -38,6 +38,18 @@ kind_flow (Weir notch crest cd6 flap contractions) = pos 0
 
 abbrev pub opening_flow : List Link → ℕ → ℤ
 opening_flow links l = kind_flow (link_at links l).kind
+
+-- the setting of a link in the beginning, in millionths: a pump may be off, all other links are open
+abbrev pub kind_setting : LinkKind → ℤ
+kind_setting (Conduit long n6 z1 z2 q0 q_max entry6 exit6 avg6 flap) = pos 1_000_000
+kind_setting (Pump curve on startup shutoff) = if on then pos 1_000_000 else pos 0
+kind_setting (Orifice bottom offset cd6 flap) = pos 1_000_000
+kind_setting (Weir notch crest cd6 flap contractions) = pos 1_000_000
+
+-- and nothing else of its own
+abbrev pub opening_link : List Link → ℕ → LinkFixed
+opening_link links l =
+    record { q_old = pos 0; a_old = pos 0; setting = kind_setting (link_at links l).kind; dt = pos 0 }
 
 -- what a node has of its own at a moment: its lateral inflow and its stage
 abbrev pub opening_node : Project → ℕ → NodeFixed
@@ -72,7 +84,7 @@ abbrev pub opening_head : Project → ℕ → ℤ
 opening_head project n =
     let node = node_of project.nodes n in kind_head node.kind node.invert node.y0 (opening_level project n)
 
--- the state before the first step: initial flows, what the nodes get of these flows, and initial heads
+-- the state before the first step: initial flows and settings, what the nodes get of these flows, and initial heads
 unfoldable pub opening : Project → Nets
 opening project =
     let law = project_law project in
@@ -84,26 +96,26 @@ opening project =
       outflows = list_of (opening_outflow project) law.nodes;
       areas = replicate law.nodes (pos 0);
       read_heads = replicate law.nodes (pos 0);
-      links = replicate law.links no_link;
+      links = list_of (opening_link project.links) law.links;
       nodes = list_of (opening_node project) law.nodes;
       least = pos 0;
     }
 
 -- ---- a step
--- what stays the same for a link over a step: its flow and its middle area in the state, its setting (all are
--- open), the length
-abbrev pub link_start : Hydraulics → (heads flows : List ℤ) → (dt : ℤ) → ℕ → LinkFixed
-link_start h heads flows dt l =
+-- what stays the same for a link over a step: its flow and its middle area in the state, its setting, the length
+abbrev pub link_start : Hydraulics → (heads flows : List ℤ) → (setting dt : ℤ) → ℕ → LinkFixed
+link_start h heads flows setting dt l =
     let ends = (law_of h).ends l in
     record {
       q_old = number flows l;
       a_old = mid_area_at h l (number heads ends.0) (number heads ends.1);
-      setting = pos 1_000_000;
+      setting = setting;
       dt = dt;
     }
 
-abbrev pub prepared_link : Project → Nets → (dt : ℤ) → ℕ → LinkFixed
-prepared_link project s = link_start (hydraulics_of project) s.heads s.flows
+abbrev pub prepared_link : Project → Nets → (finish dt : ℤ) → ℕ → LinkFixed
+prepared_link project s finish dt l =
+    link_start (hydraulics_of project) s.heads s.flows (number (settings_in project (finish -ℤ dt) s) l) dt l
 
 -- and for a node: its head and its net inflow in the state, and its lateral inflow and stage at the step's end
 abbrev pub node_start : Project → (heads inflows outflows : List ℤ) → List NodeFixed → (finish dt : ℤ) → ℕ → NodeFixed
@@ -123,7 +135,7 @@ unfoldable pub prepared : Project → (finish dt : ℤ) → Nets → Nets
 prepared project finish dt s =
     let law = project_law project in
     record s {
-      links = list_of (prepared_link project s dt) law.links;
+      links = list_of (prepared_link project s finish dt) law.links;
       nodes = list_of (prepared_node project s finish dt) law.nodes;
     }
 

@@ -1,9 +1,10 @@
 // What a run begins with.
-ghost use Rattle.std.specs.Prelude.{◌≡◌, IfOk, replicate, pos};
+ghost use Rattle.std.specs.Prelude.{◌≡◌, IfOk, length, replicate, pos};
 ghost use Rattle.run_engine.specs.Kept.{AreFloodsAt, AreSumsOf, IsStateAt};
-ghost use Rattle.run_engine.specs.Ready.{IsReady};
+ghost use Rattle.project_check.specs.Faultless.{IsFaultless};
 
 use crate::one_step::add_state;
+use crate::settings::SettingRoom;
 use net_types::{List, OutOfMemory, Project};
 use std::alloc::Global;
 use summaries::Summaries;
@@ -20,6 +21,30 @@ pub(crate) fn zeros(alloc: Global, count: u32) -> Result<List<i128>, OutOfMemory
     Ok(list)
 }
 
+// So many places for settings and flows.
+fn places(alloc: Global, count: u32) -> Result<List<i64>, OutOfMemory>
+    ensures { IfOk result (λ list. length list ≡ count) }
+{
+    let mut list = List::new(alloc);
+    for _ in 0..count {
+        list.push(0)?;
+    }
+    Ok(list)
+}
+
+// Room for the settings of so many nodes and links.
+pub(crate) fn open_room(alloc: Global, nodes: u32, links: u32) -> Result<SettingRoom, OutOfMemory>
+    ensures inflows { IfOk result (λ room. length room.inflows ≡ nodes) }
+    ensures pumped { IfOk result (λ room. length room.pumped ≡ links) }
+    ensures settings { IfOk result (λ room. length room.settings ≡ links) }
+{
+    Ok(SettingRoom {
+        inflows: places(alloc, nodes)?,
+        pumped: places(alloc, links)?,
+        settings: places(alloc, links)?,
+    })
+}
+
 // The summaries of the opening state.
 pub(crate) fn open_sums(
     alloc: Global,
@@ -27,7 +52,7 @@ pub(crate) fn open_sums(
     nets: &Nets,
     floods: &List<i128>,
 ) -> Result<Summaries, OutOfMemory>
-    requires project { IsReady project.now }
+    requires project { IsFaultless project.now }
     requires now { IsStateAt project.now 0 nets.now }
     requires floods { AreFloodsAt project.now 0 floods.now }
     ensures { IfOk result (λ sums. AreSumsOf project.now 1 sums) }

@@ -1,4 +1,5 @@
 // What a run keeps between two steps.
+use crate::settings::SettingRoom;
 use continuity::RunAccount;
 use net_types::List;
 use report_writer::RunCounts;
@@ -6,8 +7,8 @@ use runoff_states::Runoff;
 use summaries::Summaries;
 use trial_model::Nets;
 
-// The state of a run and what its steps and states came to so far. The state before and the lateral inflows are room
-// for those of a step.
+// The state of a run and what its steps and states came to so far. The state before, the lateral inflows and the
+// settings are room for those of a step.
 #[derive(Debug, Drop)]
 pub(crate) struct Kept {
     // the moment of the state, in ms since the start of the run
@@ -16,6 +17,7 @@ pub(crate) struct Kept {
     pub(crate) before: Nets,
     pub(crate) runoff: Runoff,
     pub(crate) laterals: List<i128>,
+    pub(crate) room: SettingRoom,
     pub(crate) floods: List<i128>,
     pub(crate) sums: Summaries,
     pub(crate) total: RunAccount,

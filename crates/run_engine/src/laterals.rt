@@ -2,7 +2,7 @@
 ghost use Rattle.std.specs.Prelude.{◌≡◌, length, ℤ, pos, ◌≤ℤ◌};
 ghost use Rattle.fixed_num.specs.Ranges.{IsBetween};
 ghost use Rattle.run_engine.specs.Laterals.{IsRunoffAt, laterals_at};
-ghost use Rattle.run_engine.specs.Ready.{IsReady};
+ghost use Rattle.project_check.specs.Faultless.{IsFaultless};
 ghost use Rattle.time_series.specs.LateralFlow.{IsRunMoment};
 
 use net_types::Project;
@@ -11,7 +11,7 @@ use time_series::lateral_flows;
 
 // Makes all steps of runoff that are done at a moment, in ms since the start of the run: those of an earlier one are.
 pub(crate) fn advance_runoff(project: &Project, moment: i64, runoff: &mut Runoff)
-    requires project { IsReady project.now }
+    requires project { IsFaultless project.now }
     requires moment { moment ≤ℤ pos 316_224_000_000 }
     requires runoff { (earlier : ℤ) × IsBetween (pos 0) earlier moment × IsRunoffAt project.now earlier runoff.old }
     ensures { IsRunoffAt project.now moment runoff.new }
@@ -23,7 +23,7 @@ pub(crate) fn advance_runoff(project: &Project, moment: i64, runoff: &mut Runoff
 
 // Finds the lateral inflow of each node at a moment, in cm³/s.
 pub(crate) fn find_laterals(project: &Project, moment: i64, runoff: &Runoff, laterals: &mut [i128])
-    requires project { IsReady project.now }
+    requires project { IsFaultless project.now }
     requires calendar { IsRunMoment project.now moment }
     requires moment { IsBetween (pos 0) moment (pos 316_224_000_000) }
     requires runoff { IsRunoffAt project.now moment runoff.now }

@@ -19,6 +19,7 @@ mod opening;
 mod output;
 mod prepare;
 mod run;
+mod settings;
 mod step;
 mod times;
 

@@ -1,16 +1,18 @@
 // A step with all that a run keeps of it.
-ghost use Rattle.std.specs.Prelude.{◌≡◌, ◌+◌, ◌<◌, ◌≤◌, length, true, if◌then◌else◌};
+ghost use Rattle.std.specs.Prelude.{◌≡◌, ◌+◌, ◌<◌, ◌≤◌, length, true, if◌then◌else◌, ◌-ℤ◌};
 ghost use Rattle.link_eval.specs.Hydraulics.{hydraulics_of};
 ghost use Rattle.trial_model.specs.Fits.{Fits};
 ghost use Rattle.run_engine.specs.Kept.{AreCountsAt, AreFloodsAt, AreSumsOf, IsKept, IsStateAt, IsTotalAt};
 ghost use Rattle.run_engine.specs.Laterals.{laterals_at};
 ghost use Rattle.run_engine.specs.Results.{end_at};
-ghost use Rattle.run_engine.specs.Ready.{IsReady};
+ghost use Rattle.project_check.specs.Faultless.{IsFaultless};
+ghost use Rattle.run_engine.specs.Settings.{settings_in};
 ghost use Rattle.run_engine.specs.States.{length_at, moment_at, project_law};
 ghost use Rattle.run_engine.specs.Times.{IsRunStep, IsRunTime, goes_on};
 
 use crate::kept::Kept;
 use crate::laterals::{advance_runoff, find_laterals};
+use crate::settings::find_settings;
 use crate::step::make_step;
 use crate::times::next_span;
 use continuity::{RunAccount, account_step, find_floods};
@@ -33,6 +35,7 @@ pub(crate) fn one_step(project: &Project, law: &HydraulicLaw, kept: &mut Kept)
     advance_runoff(project, span.finish, &mut kept.runoff);
     let laterals = kept.laterals.as_mut_slice();
     find_laterals(project, span.finish, &kept.runoff, laterals);
+    find_settings(project, kept.moment, &kept.nets, &mut kept.room);
     let end = step_on(
         project,
         law,
@@ -40,6 +43,7 @@ pub(crate) fn one_step(project: &Project, law: &HydraulicLaw, kept: &mut Kept)
         span.finish,
         span.length,
         laterals,
+        kept.room.settings.as_slice(),
         &mut kept.before,
         &mut kept.nets,
     );
@@ -75,15 +79,17 @@ fn step_on(
     finish: i64,
     dt: i64,
     laterals: &[i128],
+    settings: &[i64],
     before: &mut Nets,
     nets: &mut Nets,
 ) -> StepEnd
-    requires project { IsReady project.now }
+    requires project { IsFaultless project.now }
     requires law { law.now.hydraulics ≡ hydraulics_of project.now }
     requires finish { finish ≡ moment_at project.now (k + 1) }
     requires length { dt ≡ length_at project.now k }
     requires step { IsRunStep project.now.options finish dt }
     requires laterals { laterals.now ≡ laterals_at project.now finish }
+    requires settings { settings.now ≡ settings_in project.now (finish -ℤ dt) nets.old }
     requires room { Fits (project_law project.now) before.old }
     requires now { IsStateAt project.now k nets.old }
     ensures before { before.new ≡ nets.old }
@@ -91,7 +97,7 @@ fn step_on(
     ensures end { result ≡ end_at project.now k }
     ensures trials { result.trials ≤ 20 }
 {
-    make_step(project, law, finish, dt, laterals, before, nets)
+    make_step(project, law, finish, dt, laterals, settings, before, nets)
 }
 
 // Finds what flooded the nodes in the step from state `k` to the next.
@@ -115,7 +121,7 @@ fn add_account(
     floods: &[i128],
     total: &mut RunAccount,
 )
-    requires project { IsReady project.now }
+    requires project { IsFaultless project.now }
     requires law { law.now.hydraulics ≡ hydraulics_of project.now }
     requires few { k < 50_000_000 }
     requires length { dt ≡ length_at project.now k }
@@ -138,7 +144,7 @@ pub(crate) fn add_state(
     floods: &[i128],
     sums: &mut Summaries,
 )
-    requires project { IsReady project.now }
+    requires project { IsFaultless project.now }
     requires few { k ≤ 50_000_000 }
     requires moment { moment ≡ moment_at project.now k }
     requires now { IsStateAt project.now k nets.now }

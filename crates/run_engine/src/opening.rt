@@ -1,18 +1,18 @@
 // The opening state of a run.
-ghost use Rattle.std.specs.Prelude.{◌≡◌, ◌<◌, length, pos, IfOk};
+ghost use Rattle.std.specs.Prelude.{◌≡◌, ◌<◌, if◌then◌else◌, length, pos, IfOk};
 ghost use Rattle.fixed_num.specs.Ranges.{IsElevation, IsDepth, IsFlow};
 ghost use Rattle.link_eval.specs.Hydraulics.{hydraulics_of};
 ghost use Rattle.trial_model.specs.Start.{resting};
 ghost use Rattle.fixed_num.specs.Lists.{list_of, number};
 ghost use Rattle.run_engine.specs.Laterals.{laterals_at};
-ghost use Rattle.run_engine.specs.Ready.{IsReady};
-ghost use Rattle.run_engine.specs.States.{kind_flow, kind_head, opening};
-ghost use Rattle.run_engine.specs.States.{opening_flow, opening_head, opening_inflow, opening_level};
+ghost use Rattle.project_check.specs.Faultless.{IsFaultless};
+ghost use Rattle.run_engine.specs.States.{kind_flow, kind_head, kind_setting, opening};
+ghost use Rattle.run_engine.specs.States.{opening_flow, opening_head, opening_inflow, opening_level, opening_link};
 ghost use Rattle.run_engine.specs.States.{opening_node, opening_outflow};
 
 use link_eval::HydraulicLaw;
 use net_types::{Link, LinkKind, NodeKind, OutOfMemory, Project};
-use phase_law::{NodeFixed, PhaseLaw};
+use phase_law::{LinkFixed, NodeFixed, PhaseLaw};
 use std::alloc::Global;
 use time_series::node_stage;
 use trial_model::{Nets, sum_flows};
@@ -24,7 +24,7 @@ pub(crate) fn open_state(
     law: &HydraulicLaw,
     laterals: &[i128],
 ) -> Result<Nets, OutOfMemory>
-    requires project { IsReady project.now }
+    requires project { IsFaultless project.now }
     requires law { law.now.hydraulics ≡ hydraulics_of project.now }
     requires laterals { laterals.now ≡ laterals_at project.now (pos 0) }
     ensures { IfOk result (λ nets. nets ≡ opening project.now) }
@@ -38,7 +38,7 @@ pub(crate) fn open_state(
 
 // Makes a state in which nothing has happened the opening state.
 fn open_nets(project: &Project, law: &HydraulicLaw, laterals: &[i128], nets: &mut Nets)
-    requires project { IsReady project.now }
+    requires project { IsFaultless project.now }
     requires law { law.now.hydraulics ≡ hydraulics_of project.now }
     requires laterals { laterals.now ≡ laterals_at project.now (pos 0) }
     requires nets { nets.old ≡ resting (length project.now.nodes) (length project.now.links) }
@@ -46,6 +46,7 @@ fn open_nets(project: &Project, law: &HydraulicLaw, laterals: &[i128], nets: &mu
 {
     let links = project.links.as_slice();
     open_flows(links, nets.flows.as_mut_slice());
+    open_links(links, nets.links.as_mut_slice());
     open_nodes(project, laterals, nets.nodes.as_mut_slice());
     sum_flows(law, nets);
     let nodes = nets.nodes.as_slice();
@@ -70,7 +71,7 @@ fn open_heads(
     outflows: &[i64],
     heads: &mut [i64],
 )
-    requires project { IsReady project.now }
+    requires project { IsFaultless project.now }
     requires law { law.now.hydraulics ≡ hydraulics_of project.now }
     requires nodes { nodes.now ≡ list_of (opening_node project.now) (length project.now.nodes) }
     requires inflows { inflows.now ≡ list_of (opening_inflow project.now) (length project.now.nodes) }
@@ -93,7 +94,7 @@ fn open_head(
     outflows: &[i64],
     n: u32,
 ) -> i64
-    requires project { IsReady project.now }
+    requires project { IsFaultless project.now }
     requires law { law.now.hydraulics ≡ hydraulics_of project.now }
     requires nodes { nodes.now ≡ list_of (opening_node project.now) (length project.now.nodes) }
     requires inflows { inflows.now ≡ list_of (opening_inflow project.now) (length project.now.nodes) }
@@ -115,7 +116,7 @@ fn open_level(
     outflows: &[i64],
     n: u32,
 ) -> i64
-    requires project { IsReady project.now }
+    requires project { IsFaultless project.now }
     requires law { law.now.hydraulics ≡ hydraulics_of project.now }
     requires nodes { nodes.now ≡ list_of (opening_node project.now) (length project.now.nodes) }
     requires inflows { inflows.now ≡ list_of (opening_inflow project.now) (length project.now.nodes) }
@@ -176,9 +177,49 @@ fn kind_flow(kind: &LinkKind) -> i64
     }
 }
 
+// Sets the initial setting of every link, in millionths.
+fn open_links(links: &[Link], fixed: &mut [LinkFixed])
+    requires fixed { length fixed.old ≡ length links.now }
+    ensures { fixed.new ≡ list_of (opening_link links.now) (length links.now) }
+{
+    for l in 0..links.len() {
+        fixed[l] = open_link(links, l);
+    }
+}
+
+// What a link has of its own at the beginning.
+fn open_link(links: &[Link], l: usize) -> LinkFixed
+    requires l { l < length links.now }
+    ensures { result ≡ opening_link links.now l }
+{
+    LinkFixed {
+        q_old: 0,
+        a_old: 0,
+        setting: kind_setting(&links[l].kind),
+        dt: 0,
+    }
+}
+
+// The initial setting of a link of this kind, in millionths.
+fn kind_setting(kind: &LinkKind) -> i64
+    ensures { result ≡ kind_setting kind.now }
+{
+    match kind {
+        LinkKind::Pump { on, .. } => open_or_shut(*on),
+        LinkKind::Conduit { .. } | LinkKind::Orifice { .. } | LinkKind::Weir { .. } => 1_000_000,
+    }
+}
+
+// The setting of a pump that is on or off.
+fn open_or_shut(on: bool) -> i64
+    ensures { result ≡ (if on then pos 1_000_000 else pos 0) }
+{
+    if on { 1_000_000 } else { 0 }
+}
+
 // Sets what the nodes have of their own at the beginning.
 fn open_nodes(project: &Project, laterals: &[i128], fixed: &mut [NodeFixed])
-    requires project { IsReady project.now }
+    requires project { IsFaultless project.now }
     requires laterals { laterals.now ≡ laterals_at project.now (pos 0) }
     requires fixed { length fixed.old ≡ length project.now.nodes }
     ensures { fixed.new ≡ list_of (opening_node project.now) (length project.now.nodes) }
@@ -191,7 +232,7 @@ fn open_nodes(project: &Project, laterals: &[i128], fixed: &mut [NodeFixed])
 
 // What a node has of its own at the beginning: its lateral inflow in cm³/s and its stage in µm.
 fn open_node(project: &Project, laterals: &[i128], n: u32) -> NodeFixed
-    requires project { IsReady project.now }
+    requires project { IsFaultless project.now }
     requires laterals { laterals.now ≡ laterals_at project.now (pos 0) }
     requires n { n < length project.now.nodes }
     ensures { result ≡ opening_node project.now n }

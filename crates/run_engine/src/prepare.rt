@@ -1,13 +1,14 @@
 // Making a state ready for the trials of a step.
-ghost use Rattle.std.specs.Prelude.{◌≡◌, ◌<◌, length};
+ghost use Rattle.std.specs.Prelude.{◌≡◌, ◌<◌, length, ◌-ℤ◌};
 ghost use Rattle.link_eval.specs.Hydraulics.{hydraulics_of, law_of, mid_area_at};
 ghost use Rattle.fixed_num.specs.Ranges.{IsStepLength, IsFlow};
 ghost use Rattle.time_series.specs.LateralFlow.{IsRunMoment};
 ghost use Rattle.trial_model.specs.Fits.{Fits, FlowsFit, HeadsFit, node_fixed_at};
 ghost use Rattle.fixed_num.specs.Lists.{number, list_of};
-ghost use Rattle.run_engine.specs.Ready.{IsReady};
+ghost use Rattle.project_check.specs.Faultless.{IsFaultless};
 ghost use Rattle.run_engine.specs.Amounts.{AreAmounts, HaveLaterals};
 ghost use Rattle.run_engine.specs.Laterals.{laterals_at};
+ghost use Rattle.run_engine.specs.Settings.{settings_in};
 ghost use Rattle.run_engine.specs.States.{link_start, node_start, prepared, project_law};
 
 use crate::opening::lateral_here;
@@ -18,22 +19,24 @@ use time_series::node_stage;
 use trial_model::Nets;
 
 // Makes a state ready for the trials of a step that finishes at this moment and has this length, both in ms: the flows,
-// heads and net inflows of the state stay the same over the trials, beside the lateral inflows and stages at the
-// step's end.
+// heads and net inflows of the state stay the same over the trials, beside the settings of the links, and the lateral
+// inflows and stages at the step's end.
 pub(crate) fn prepare(
     project: &Project,
     law: &HydraulicLaw,
     finish: i64,
     dt: i64,
     laterals: &[i128],
+    settings: &[i64],
     nets: &mut Nets,
 )
-    requires project { IsReady project.now }
+    requires project { IsFaultless project.now }
     requires law { law.now.hydraulics ≡ hydraulics_of project.now }
     requires fits { Fits (project_law project.now) nets.old }
     requires finish { IsRunMoment project.now finish }
     requires dt { IsStepLength dt }
     requires laterals { laterals.now ≡ laterals_at project.now finish }
+    requires settings { settings.now ≡ settings_in project.now (finish -ℤ dt) nets.old }
     ensures nets { nets.new ≡ prepared project.now finish dt nets.old }
     ensures fits { Fits (project_law project.now) nets.new }
 {
@@ -41,7 +44,8 @@ pub(crate) fn prepare(
     let flows = nets.flows.as_slice();
     let inflows = nets.inflows.as_slice();
     let outflows = nets.outflows.as_slice();
-    prepare_links(law, dt, heads, flows, nets.links.as_mut_slice());
+    let links = nets.links.as_mut_slice();
+    prepare_links(law, dt, heads, flows, settings, links);
     prepare_nodes(
         project,
         finish,
@@ -55,28 +59,45 @@ pub(crate) fn prepare(
 }
 
 // Sets what stays the same for every link over a step of this length.
-fn prepare_links(law: &HydraulicLaw, dt: i64, heads: &[i64], flows: &[i64], links: &mut [LinkFixed])
+fn prepare_links(
+    law: &HydraulicLaw,
+    dt: i64,
+    heads: &[i64],
+    flows: &[i64],
+    settings: &[i64],
+    links: &mut [LinkFixed],
+)
     requires heads { HeadsFit (law_of law.now.hydraulics) heads.now }
     requires flows { FlowsFit (law_of law.now.hydraulics) flows.now }
+    requires settings { length settings.now ≡ (law_of law.now.hydraulics).links }
     requires links { length links.old ≡ (law_of law.now.hydraulics).links }
-    ensures { let h = law.now.hydraulics in links.new ≡ list_of (link_start h heads.now flows.now dt) (law_of h).links }
+    ensures { let h = law.now.hydraulics in links.new
+        ≡ list_of (λ l. link_start h heads.now flows.now (number settings.now l) dt l) (law_of h).links }
 {
     for link in 0..law.links() {
-        links[link as usize] = link_start(law, link, dt, heads, flows);
+        let setting = settings[link as usize];
+        links[link as usize] = link_start(law, link, setting, dt, heads, flows);
     }
 }
 
-// What stays the same for a link over a step. All links are open, which is a setting of 10^6 millionths.
-fn link_start(law: &HydraulicLaw, link: u32, dt: i64, heads: &[i64], flows: &[i64]) -> LinkFixed
+// What stays the same over a step for a link with this setting.
+fn link_start(
+    law: &HydraulicLaw,
+    link: u32,
+    setting: i64,
+    dt: i64,
+    heads: &[i64],
+    flows: &[i64],
+) -> LinkFixed
     requires link { link < (law_of law.now.hydraulics).links }
     requires heads { HeadsFit (law_of law.now.hydraulics) heads.now }
     requires flows { FlowsFit (law_of law.now.hydraulics) flows.now }
-    ensures { result ≡ link_start law.now.hydraulics heads.now flows.now dt link }
+    ensures { result ≡ link_start law.now.hydraulics heads.now flows.now setting dt link }
 {
     LinkFixed {
         q_old: flows[link as usize],
         a_old: middle_area(law, link, heads),
-        setting: 1_000_000,
+        setting,
         dt,
     }
 }
@@ -103,7 +124,7 @@ fn prepare_nodes(
     outflows: &[i64],
     nodes: &mut [NodeFixed],
 )
-    requires project { IsReady project.now }
+    requires project { IsFaultless project.now }
     requires finish { IsRunMoment project.now finish }
     requires laterals { laterals.now ≡ laterals_at project.now finish }
     requires heads { length heads.now ≡ length project.now.nodes }
@@ -133,7 +154,7 @@ fn node_start(
     outflows: &[i64],
     nodes: &[NodeFixed],
 ) -> NodeFixed
-    requires project { IsReady project.now }
+    requires project { IsFaultless project.now }
     requires n { n < length project.now.nodes }
     requires finish { IsRunMoment project.now finish }
     requires laterals { laterals.now ≡ laterals_at project.now finish }

@@ -6,10 +6,9 @@ ghost use Rattle.fault_ports.specs.Output.{Puts};
 ghost use Rattle.project_check.specs.Faultless.{IsFaultless};
 ghost use Rattle.run_engine.specs.Progress.{IsAt, IsGoingAt};
 ghost use Rattle.run_engine.specs.Report.{report_of};
-ghost use Rattle.run_engine.specs.Ready.{IsBuilt};
 ghost use Rattle.run_engine.specs.States.{steps_of};
 
-use crate::begin::{open_sums, zeros};
+use crate::begin::{open_room, open_sums, zeros};
 use crate::kept::Kept;
 use crate::laterals::find_laterals;
 use crate::one_step::one_step;
@@ -65,8 +64,7 @@ impl Model for Run {
 ///
 /// Source: this project's profile.
 pub fn open_run(alloc: Global, project: Project) -> Result<Run, OutOfMemory>
-    requires faultless { IsFaultless project }
-    requires built { IsBuilt project }
+    requires { IsFaultless project }
     ensures { IfOk result (λ run. (run.project ≡ project) × IsAt run 0) }
 {
     let law = HydraulicLaw::build(alloc, &project)?;
@@ -77,6 +75,7 @@ pub fn open_run(alloc: Global, project: Project) -> Result<Run, OutOfMemory>
     find_laterals(&project, 0, &runoff, laterals.as_mut_slice());
     let nets = open_state(alloc, &project, &law, laterals.as_slice())?;
     let before = Nets::with_room(alloc, nodes, links)?;
+    let room = open_room(alloc, nodes, links)?;
     let floods = zeros(alloc, nodes)?;
     let sums = open_sums(alloc, &project, &nets, &floods)?;
     let kept = Kept {
@@ -85,6 +84,7 @@ pub fn open_run(alloc: Global, project: Project) -> Result<Run, OutOfMemory>
         before,
         runoff,
         laterals,
+        room,
         floods,
         sums,
         total: RunAccount::new(),

@@ -1,5 +1,5 @@
 // One step of a run.
-ghost use Rattle.std.specs.Prelude.{◌≡◌, ◌≤◌, length};
+ghost use Rattle.std.specs.Prelude.{◌≡◌, ◌≤◌, length, ◌-ℤ◌};
 ghost use Rattle.continuity.specs.StepOf.{IsBelowTops};
 ghost use Rattle.link_eval.specs.Hydraulics.{hydraulics_of};
 ghost use Rattle.fixed_num.specs.Ranges.{IsStepLength};
@@ -8,7 +8,8 @@ ghost use Rattle.trial_model.specs.Fits.{Fits};
 ghost use Rattle.trial_model.specs.Trial.{SumsOf};
 ghost use Rattle.run_engine.specs.Kept.{HaveSameCounts};
 ghost use Rattle.run_engine.specs.Laterals.{laterals_at};
-ghost use Rattle.run_engine.specs.Ready.{IsReady};
+ghost use Rattle.project_check.specs.Faultless.{IsFaultless};
+ghost use Rattle.run_engine.specs.Settings.{settings_in};
 ghost use Rattle.run_engine.specs.States.{next_nets, project_law, step_end};
 
 use crate::prepare::prepare;
@@ -24,14 +25,16 @@ pub(crate) fn make_step(
     finish: i64,
     dt: i64,
     laterals: &[i128],
+    settings: &[i64],
     before: &mut Nets,
     nets: &mut Nets,
 ) -> StepEnd
-    requires project { IsReady project.now }
+    requires project { IsFaultless project.now }
     requires law { law.now.hydraulics ≡ hydraulics_of project.now }
     requires finish { IsRunMoment project.now finish }
     requires dt { IsStepLength dt }
     requires laterals { laterals.now ≡ laterals_at project.now finish }
+    requires settings { settings.now ≡ settings_in project.now (finish -ℤ dt) nets.old }
     requires room { Fits (project_law project.now) before.old }
     requires fits { Fits (project_law project.now) nets.old }
     requires tops { IsBelowTops (hydraulics_of project.now) nets.old }
@@ -46,7 +49,7 @@ pub(crate) fn make_step(
     ensures tops { IsBelowTops (hydraulics_of project.now) nets.new }
 {
     keep(nets, before);
-    prepare(project, law, finish, dt, laterals, nets);
+    prepare(project, law, finish, dt, laterals, settings, nets);
     step_alone(law, nets, project.options.max_trials)
 }
 

@@ -1,13 +1,12 @@
 -- The runoff of a run from step to step.
 use Rattle.std.proofs.Common.{◌≡◌, ℕ, suc, ◌+◌, ◌*◌, ◌^◌, ◌<◌, List, length, ℤ, pos, negsuc, ◌+ℤ◌, ◌*ℤ◌, ◌≤ℤ◌}
-use Rattle.std.proofs.Common.{refl, sym, ap, ◌∙◌, subst, arith}
+use Rattle.std.proofs.Common.{refl, sym, ap, ◌∙◌, ◌++◌, subst, take, drop, arith}
 use Rattle.std.proofs.lemmas.Int.{ints}
+use Rattle.std.proofs.Math.Seq.{take-append_seam}
 use Rattle.fixed_num.specs.Ranges.{IsBetween}
-use Rattle.infiltration.specs.CurveNumber.{IsCurveState}
-use Rattle.infiltration.specs.Horton.{IsHortonState}
-use Rattle.infiltration.specs.Infiltration.{IsStateBy, method_of}
-use Rattle.infiltration.specs.declared.method.Method.{Method}
-use Rattle.infiltration.specs.declared.method.Method.TheVariants.{Horton as HortonOf, Number as NumberOf}
+use Rattle.infiltration.specs.Infiltration.{IsStateUpTo}
+use Rattle.net_types.specs.declared.hydrology.Infil.{Infil}
+use Rattle.net_types.specs.declared.hydrology.Infil.TheVariants.{Horton, Number}
 use Rattle.infiltration.specs.declared.states.InfilState.{InfilState}
 use Rattle.infiltration.specs.declared.states.InfilState.TheVariants.{Horton as HortonAt, Number as NumberAt}
 use Rattle.fixed_num.proofs.SignedSums.{sum_same, times_plus}
@@ -17,7 +16,10 @@ use Rattle.runoff.specs.RunoffStep.{AreDepths, IsSubStateUpTo}
 use Rattle.runoff.specs.Subareas.{infil_or}
 use Rattle.runoff.specs.declared.states.SubState.{SubState}
 use Rattle.runoff_states.specs.RunoffStates.{AreStates, AreStatesUpTo, moment_of, runoff_state, state_at, sub_at}
+use Rattle.runoff_states.specs.Runoff.{IsRunoffAfter}
+use Rattle.runoff_states.specs.RunoffStates.{runoff_step, step_on}
 use Rattle.runoff_states.specs.RunoffTimes.{flow_to, node_runoff}
+use Rattle.runoff_states.specs.declared.kept.Runoff.{Runoff}
 
 -- ---- a range is in every greater one
 between_more : {x most more : ℤ} → most ≤ℤ more → IsBetween (pos 0) x most → IsBetween (pos 0) x more
@@ -31,12 +33,12 @@ depths_more h d = record {
   paved = between_more h d.paved;
 }
 
-infil_more : (method : Method) (state : InfilState) {most more : ℤ} → most ≤ℤ more → IsStateBy most method state
-    → IsStateBy more method state
-infil_more (HortonOf curve) (HortonAt state) h s = record { above = between_more h s.above; held = s.held }
-infil_more (HortonOf curve) (NumberAt state) h s = absurd s
-infil_more (NumberOf curve) (HortonAt state) h s = absurd s
-infil_more (NumberOf curve) (NumberAt state) h s = record {
+infil_more : (infil : Infil) (state : InfilState) {most more : ℤ} → most ≤ℤ more → IsStateUpTo most infil state
+    → IsStateUpTo more infil state
+infil_more (Horton max min decay6 dry volume) (HortonAt state) h s = record { above = between_more h s.above; held = s.held }
+infil_more (Horton max min decay6 dry volume) (NumberAt state) h s = absurd s
+infil_more (Number cn6 dry) (HortonAt state) h s = absurd s
+infil_more (Number cn6 dry) (NumberAt state) h s = record {
   room = s.room;
   event_room = s.event_room;
   rain = between_more h s.rain;
@@ -48,7 +50,7 @@ sub_more : (sub : Sub) (state : SubState) {most more : ℤ} → most ≤ℤ more
     → IsSubStateUpTo more sub state
 sub_more sub state h s = record {
   depths = depths_more h s.depths;
-  infil = infil_more (method_of (infil_or sub.infil)) state.infil h s.infil;
+  infil = infil_more (infil_or sub.infil) state.infil h s.infil;
   flow = s.flow;
 }
 
@@ -68,7 +70,6 @@ pub moment_next : (project : Project) (steps : ℕ)
     → moment_of project (suc steps) ≡ moment_of project steps +ℤ project.options.wet_ms
 moment_next project steps = next_product steps project.options.wet_ms
 
-
 pub room_next : (most begin ms : ℤ)
     → most +ℤ pos 2_778 *ℤ begin +ℤ pos 2_778 *ℤ ms ≡ most +ℤ pos 2_778 *ℤ (begin +ℤ ms)
 room_next most begin ms = omega (arith, ints)
@@ -80,3 +81,29 @@ pub runoff_same : (project : Project) (start : ℕ → SubState) (steps : ℕ) (
 runoff_same project start steps states node are =
     sum_same (λ k. flow_to project node (state_at states k) k) (λ k. flow_to project node (runoff_state project start steps k) k)
     (length project.subs) (λ k inside. ap (λ (s : SubState). flow_to project node s k) (are.is k inside))
+
+-- ---- a step of the whole
+-- a list that was lent whole is what was left behind the loan
+pub written_back : {A : Type 0} (xs ys : List A) → length ys ≡ length xs → take (length xs) (ys ++ drop (length ys) xs) ≡ ys
+written_back xs ys same = rw (sym same) (take-append_seam ys (drop (length ys) xs))
+
+pub stepped : {project : Project} {start : ℕ → SubState} {most : ℤ} {steps : ℕ} {old new : Runoff}
+    → IsRunoffAfter project start most steps old → new.begin ≡ old.begin +ℤ project.options.wet_ms
+    → AreStates project start (suc steps) new.states
+    → AreStatesUpTo (most +ℤ pos 2_778 *ℤ old.begin +ℤ pos 2_778 *ℤ project.options.wet_ms) project new.states
+    → length new.steps ≡ length project.subs → IsRunoffAfter project start most (suc steps) new
+stepped {project} {start} {most} {steps} {old} {new} at begins states range places = record {
+  begins = begins ∙ ap (λ (b : ℤ). b +ℤ project.options.wet_ms) at.begins ∙ sym (moment_next project steps);
+  states = states;
+  range = subst (λ (m : ℤ). AreStatesUpTo m project new.states)
+      (room_next most old.begin project.options.wet_ms ∙ ap (λ (b : ℤ). most +ℤ pos 2_778 *ℤ b) (sym begins)) range;
+  places = places;
+}
+
+-- the step of a subcatchment, where the states before it are those of the run
+pub told_by : {project : Project} {start : ℕ → SubState} {most : ℤ} {steps : ℕ} {old : Runoff} {moment : ℤ}
+    → IsRunoffAfter project start most steps old → moment ≡ old.begin → (k : ℕ) → k < length project.subs
+    → step_on project moment (state_at old.states k) k ≡ runoff_step project start steps k
+told_by {project} {start} {most} {steps} {old} {moment} at same k inside =
+    ap (λ (m : ℤ). step_on project m (state_at old.states k) k) (same ∙ at.begins)
+    ∙ ap (λ (s : SubState). step_on project (moment_of project steps) s k) (at.states.is k inside)

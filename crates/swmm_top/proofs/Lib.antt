@@ -1,3 +1,2 @@
-mod BuiltLemmas
 mod InputLemmas
 mod OutcomeLemmas

@@ -22,11 +22,10 @@ use Rattle.project_check.specs.ProjectFaults.{project_faults}
 use Rattle.report_writer.specs.FaultReports.{line_faults_report, project_faults_report, input_too_long_report}
 use Rattle.run_engine.specs.Report.{report_of}
 use Rattle.swmm_top.specs.Answers.{HasGiven, GivesOutcome, ReportsOutcome}
-use Rattle.swmm_top.specs.Built.{is_built}
 use Rattle.swmm_top.specs.CommandWords.{Command, ReadsInputAlone, by_mode, run_only, check_only}
 use Rattle.swmm_top.specs.Input.{TakesFront, input_limit}
 use Rattle.swmm_top.specs.Outcome.{Outcome, IsOutcome, IsInputOutcome, IsLinesOutcome}
-use Rattle.swmm_top.specs.Outcome.{usage, refused, done, not_built, answer_of, answer_unless}
+use Rattle.swmm_top.specs.Outcome.{usage, refused, done, answer_of, answer_unless}
 use Rattle.swmm_top.specs.Outcome.{project_outcome, read_of, input_of, hotstart_of}
 use Rattle.swmm_top.specs.declared.mode.Mode.{Mode}
 use Rattle.swmm_top.specs.declared.mode.Mode.TheVariants.{Run, Check}
@@ -59,13 +58,8 @@ lines_one mode lines a b p q =
     (λ some. p.0 some ∙ sym (q.0 some))
 
 -- no mode writes a hotstart
-run_no_hotstart : (whole : Bool) (project : Project)
-    → (if whole then done (report_of project) else refused (project_faults_report not_built)).hotstart ≡ []
-run_no_hotstart true project = refl
-run_no_hotstart false project = refl
-
 answer_no_hotstart : (mode : Mode) (project : Project) → (answer_of mode project).hotstart ≡ []
-answer_no_hotstart Run project = run_no_hotstart (is_built project) project
+answer_no_hotstart Run project = refl
 answer_no_hotstart Check project = refl
 
 unless_no_hotstart : (faults : List ProjectFault) (answer : Outcome) → answer.hotstart ≡ [] → (answer_unless faults answer).hotstart ≡ []

@@ -1,5 +1,4 @@
 pub mod Answers
-pub mod Built
 pub mod CommandWords
 pub mod Input
 pub mod Names

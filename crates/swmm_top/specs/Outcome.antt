@@ -1,8 +1,6 @@
 -- What a command gives: a status, a report and a hotstart, by the words and the bytes alone.
 use Rattle.std.specs.Prelude.{◌≡◌, ◌≢◌, ℕ, List, [], ◌∷◌, length, nat_lt, Option, None, Some, IfSome, if◌then◌else◌}
 use Rattle.std.specs.Bool.{MatchBool}
-use Rattle.net_types.specs.Faults.{number_of}
-use Rattle.net_types.specs.declared.faults.FaultKind.TheVariants.{NotInProfile}
 use Rattle.net_types.specs.declared.faults.ProjectFault.{ProjectFault}
 use Rattle.net_types.specs.declared.project.Project.{Project}
 use Rattle.inp_lines.specs.declared.line.Line.{Line}
@@ -14,7 +12,6 @@ use Rattle.project_check.specs.ProjectFaults.{project_faults}
 use Rattle.report_writer.specs.AcceptedReport.{accepted_report}
 use Rattle.report_writer.specs.FaultReports.{line_faults_report, project_faults_report, input_too_long_report}
 use Rattle.run_engine.specs.Report.{report_of}
-use Rattle.swmm_top.specs.Built.{is_built}
 use Rattle.swmm_top.specs.CommandWords.{Command}
 use Rattle.swmm_top.specs.Input.{input_limit}
 use Rattle.swmm_top.specs.declared.mode.Mode.{Mode}
@@ -40,14 +37,10 @@ usage = record { status = Usage; report = []; hotstart = [] }
 abbrev pub done : List ℕ → Outcome
 done report = record { status = Done; report = report; hotstart = [] }
 
--- a run of a project of which not all is built is refused: it isn't in this profile
-abbrev pub not_built : List ProjectFault
-not_built = record { number = number_of NotInProfile; name = [] } ∷ []
-
 -- what a mode gives for a project without a fault: a check says how large it is, a run reports what it came to
 abbrev pub answer_of : Mode → Project → Outcome
 answer_of Check project = done (accepted_report project)
-answer_of Run project = if is_built project then done (report_of project) else refused (project_faults_report not_built)
+answer_of Run project = done (report_of project)
 
 -- faults are what a project is refused with; without one there is the answer
 abbrev pub answer_unless : List ProjectFault → Outcome → Outcome

@@ -1,9 +1,5 @@
-// The laws of outcomes, and of what is built.
+// The laws of outcomes.
 ghost use Rattle.std.specs.Prelude.{◌≡◌, List as Sequence, ℕ, Option as Maybe};
-ghost use Rattle.std.specs.Bool.{Decides};
-ghost use Rattle.net_types.specs.declared.project.Project.{Project as ProjectOf};
-ghost use Rattle.swmm_top.specs.Built.{is_built};
-ghost use Rattle.run_engine.specs.Ready.{IsBuilt};
 ghost use Rattle.swmm_top.specs.CommandWords.{Command as CommandOf};
 ghost use Rattle.swmm_top.specs.Outcome.{Outcome, IsOutcome};
 
@@ -17,9 +13,4 @@ pub fn outcome_is_unique()
 pub fn outcome_exists()
     ensures { (command : Maybe CommandOf) (input hotstart : Sequence ℕ)
         → (given : Outcome) × IsOutcome command input hotstart given }
-{}
-
-/// The test of what is built tells exactly whether all is built that a run needs.
-pub fn built_is_told()
-    ensures { (project : ProjectOf) → Decides (is_built project) (IsBuilt project) }
 {}

@@ -7,7 +7,6 @@
 //! (`specs/CommandWords.antt`, `specs/Names.antt`), and a fault's text is `specs/TopFaults.antt`.
 #![tactic(auto)]
 
-mod built;
 mod command;
 mod fault;
 mod input;
@@ -19,9 +18,8 @@ mod run;
 mod status;
 mod top;
 
-pub use built::is_built;
 pub use fault::{Port, TopFault};
-pub use laws::{built_is_told, outcome_exists, outcome_is_unique};
+pub use laws::{outcome_exists, outcome_is_unique};
 pub use names::{FileNames, file_names};
 pub use status::Status;
 pub use top::{INPUT_LIMIT, check_top, run_alone_top, swmm_top};

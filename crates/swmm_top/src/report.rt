@@ -1,19 +1,17 @@
 // The report of an input.
 ghost use Rattle.std.specs.Prelude.{List as Sequence, ℕ, ◌≤◌, length, ◌≡◌, ◌⊎◌};
-ghost use Rattle.std.specs.Prelude.{[], ◌∷◌, Ok, Err, IfOk, OnOk, OnErr, IsErrOf};
+ghost use Rattle.std.specs.Prelude.{[], Ok, Err, IfOk, OnOk, OnErr, IsErrOf};
 ghost use Rattle.fault_ports.specs.Output.{Puts};
 ghost use Rattle.inp_lines.specs.Lines.{lines_of};
 ghost use Rattle.inp_reader.specs.Reading.{ReadsAs};
 ghost use Rattle.inp_reader.specs.Soundness.{AcceptsSound};
 ghost use Rattle.net_types.specs.Sound.{IsSound};
-ghost use Rattle.net_types.specs.Faults.{number_of};
 ghost use Rattle.project_check.specs.Faultless.{IsFaultless};
 ghost use Rattle.report_writer.specs.FaultReports.{input_too_long_report, line_faults_report, project_faults_report};
 ghost use Rattle.swmm_top.specs.Answers.{EndsReport, ReportsOutcome};
 ghost use Rattle.swmm_top.specs.Input.{input_limit};
-ghost use Rattle.swmm_top.specs.Outcome.{answer_of, answer_unless, not_built, project_outcome};
+ghost use Rattle.swmm_top.specs.Outcome.{answer_of, answer_unless, project_outcome};
 
-use crate::built::is_built;
 use crate::fault::{Port, TopFault};
 use crate::mode::Mode;
 use crate::run::report_run;
@@ -21,7 +19,7 @@ use crate::status::Status;
 use crate::top::INPUT_LIMIT;
 use fault_ports::{Failed, Sink};
 use inp_reader::{Read, read_project};
-use net_types::{FaultKind, LineFault, List, OutOfMemory, Project, ProjectFault, Text};
+use net_types::{LineFault, List, OutOfMemory, Project, ProjectFault};
 use project_check::check;
 use report_writer::{put_accepted, put_input_too_long, put_line_faults, put_project_faults};
 use std::alloc::Global;
@@ -133,33 +131,8 @@ fn report_answer<W: Sink>(
 {
     match mode {
         Mode::Check => ended(Status::Done, put_accepted(rpt, &project)),
-        Mode::Run if is_built(&project) => report_run(alloc, project, rpt),
-        Mode::Run => report_not_built(alloc, rpt),
+        Mode::Run => report_run(alloc, project, rpt),
     }
-}
-
-// Reports that not all is built that a run needs.
-fn report_not_built<W: Sink>(alloc: Global, rpt: &mut W) -> Result<Status, TopFault>
-    ensures status { IfOk result (λ status. status ≡ Status.Refused) }
-    ensures report { Puts (W.held rpt.old) (W.held rpt.new) (project_faults_report not_built) result }
-    ensures ends { EndsReport W.faults rpt.old rpt.new result }
-{
-    match nameless_fault(alloc, FaultKind::NotInProfile) {
-        Ok(faults) => ended(Status::Refused, put_project_faults(rpt, &faults)),
-        Err(OutOfMemory) => Err(TopFault::OutOfMemory),
-    }
-}
-
-// One fault of this kind, of no object.
-fn nameless_fault(alloc: Global, kind: FaultKind) -> Result<List<ProjectFault>, OutOfMemory>
-    ensures { IfOk result (λ faults. faults ≡ record { number = number_of kind; name = [] } ∷ []) }
-{
-    let mut faults = List::new(alloc);
-    faults.push(ProjectFault {
-        number: kind.number(),
-        name: Text::from_slice(alloc, b"")?,
-    })?;
-    Ok(faults)
 }
 
 // The status after a report was put.

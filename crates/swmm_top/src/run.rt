@@ -3,7 +3,6 @@ ghost use Rattle.std.specs.Prelude.{◌≡◌, ◌⊎◌, IfOk, OnErr, IsErrOf};
 ghost use Rattle.fault_ports.specs.Output.{Puts};
 ghost use Rattle.run_engine.specs.Report.{report_of};
 ghost use Rattle.project_check.specs.Faultless.{IsFaultless};
-ghost use Rattle.run_engine.specs.Ready.{IsBuilt};
 ghost use Rattle.swmm_top.specs.Answers.{EndsReport};
 
 use crate::fault::{Port, TopFault};
@@ -20,8 +19,7 @@ pub(crate) fn report_run<W: Sink>(
     project: Project,
     rpt: &mut W,
 ) -> Result<Status, TopFault>
-    requires faultless { IsFaultless project }
-    requires built { IsBuilt project }
+    requires { IsFaultless project }
     ensures status { IfOk result (λ status. status ≡ Status.Done) }
     ensures report { Puts (W.held rpt.old) (W.held rpt.new) (report_of project) result }
     ensures ends { EndsReport W.faults rpt.old rpt.new result }

@@ -1,7 +1,6 @@
 // The least time of a wave through the links of a run, after its last step.
 ghost use Rattle.net_types.specs.Sound.{IsSound};
 ghost use Rattle.project_check.specs.Faultless.{IsFaultless};
-ghost use Rattle.run_engine.specs.Ready.{IsBuilt};
 
 use fault_ports::MemSink;
 use inp_reader::{Read, read_project};
@@ -10,7 +9,7 @@ use project_check::check;
 use run_engine::open_run;
 use std::alloc::Global;
 use std::test::Fail;
-use swmm_top::{INPUT_LIMIT, built_is_told, is_built};
+use swmm_top::INPUT_LIMIT;
 
 // One step of 10 s of a reach 100 m long, with two trials: after the first of them the water stands 1.005 m deep in its
 // middle.
@@ -74,23 +73,9 @@ fn time_of_project(
 {
     let faults = check(alloc, &project)?;
     match faults.as_slice() {
-        [] => time_of_faultless(alloc, project, rpt),
+        [] => time_of_run(alloc, project, rpt),
         [_, ..] => Ok(None),
     }
-}
-
-fn time_of_faultless(
-    alloc: Global,
-    project: Project,
-    rpt: &mut MemSink,
-) -> Result<Option<i64>, OutOfMemory>
-    requires { IsFaultless project }
-{
-    built_is_told();
-    if is_built(&project) {
-        return time_of_run(alloc, project, rpt);
-    }
-    Ok(None)
 }
 
 fn time_of_run(
@@ -98,8 +83,7 @@ fn time_of_run(
     project: Project,
     rpt: &mut MemSink,
 ) -> Result<Option<i64>, OutOfMemory>
-    requires faultless { IsFaultless project }
-    requires built { IsBuilt project }
+    requires { IsFaultless project }
 {
     let mut run = open_run(alloc, project)?;
     let made = run.advance_alone(rpt);

@@ -20,7 +20,7 @@ sum_flows-requires-clause-outflows c = nodes_at c.args.project.now c.requires.la
 pub open_heads-requires-clause-nodes : goal.open_heads-requires-clause-nodes
 open_heads-requires-clause-nodes c =
     c.as_slice-nodes.ensures ∙ ap (λ (t : Nets). t.nodes) c.sum_flows.ensures.nets
-    ∙ written_whole _ _ (c.open_nodes.auto.fixed ∙ ap length c.as_mut_slice-2.ensures.value) ∙ c.open_nodes.ensures
+    ∙ written_whole _ _ (c.open_nodes.auto.fixed ∙ ap length c.as_mut_slice-3.ensures.value) ∙ c.open_nodes.ensures
 
 pub open_heads-requires-clause-inflows : goal.open_heads-requires-clause-inflows
 open_heads-requires-clause-inflows c =
@@ -36,13 +36,15 @@ open_heads-requires-clause-outflows c =
 
 pub open_heads-requires-clause-heads : goal.open_heads-requires-clause-heads
 open_heads-requires-clause-heads c =
-    ap length c.as_mut_slice-3.ensures.value ∙ ap (λ (t : Nets). length t.heads) c.sum_flows.ensures.nets ∙ heads_length c.args.project.now c.requires.nets
+    ap length c.as_mut_slice-4.ensures.value ∙ ap (λ (t : Nets). length t.heads) c.sum_flows.ensures.nets ∙ heads_length c.args.project.now c.requires.nets
 
 pub returns : goal.returns
 returns c =
     let flows = simp (c.as_slice-links.ensures) at c.open_flows.ensures in
+    let links = simp (c.as_slice-links.ensures) at c.open_links.ensures in
     opened_with c.args.project.now c.args.nets.now _ c.requires.law c.requires.nets
-    (written_whole _ _ (c.open_heads.auto.heads ∙ ap length c.as_mut_slice-3.ensures.value) ∙ c.open_heads.ensures)
+    (written_whole _ _ (c.open_heads.auto.heads ∙ ap length c.as_mut_slice-4.ensures.value) ∙ c.open_heads.ensures)
     (written_whole _ _ (c.open_flows.auto.flows ∙ ap length c.as_mut_slice.ensures.value) ∙ flows)
-    (written_whole _ _ (c.open_nodes.auto.fixed ∙ ap length c.as_mut_slice-2.ensures.value) ∙ c.open_nodes.ensures)
+    (written_whole _ _ (c.open_links.auto.fixed ∙ ap length c.as_mut_slice-2.ensures.value) ∙ links)
+    (written_whole _ _ (c.open_nodes.auto.fixed ∙ ap length c.as_mut_slice-3.ensures.value) ∙ c.open_nodes.ensures)
     c.sum_flows.ensures.nets

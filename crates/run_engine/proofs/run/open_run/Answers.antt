@@ -15,7 +15,7 @@ use Rattle.run_engine.proofs.run.open_run.Goals as goal
 pub open_sums-requires-clause-now : goal.open_sums-requires-clause-now
 open_sums-requires-clause-now c =
     let good = subst IsGood c.in_ok-law.ensures c.in_ok-law.law.good in
-    opening_at c.args.project c.in_ok-nets.nets good (record { faultless = c.requires.faultless; built = c.requires.built }) c.in_ok-nets.ensures.state
+    opening_at c.args.project c.in_ok-nets.nets good (c.requires) c.in_ok-nets.ensures.state
 
 pub open_sums-requires-clause-floods : goal.open_sums-requires-clause-floods
 open_sums-requires-clause-floods c =
@@ -28,10 +28,10 @@ invariant_of-result c =
     let good = subst IsGood c.in_ok-law.ensures c.in_ok-law.law.good in
     let zeros = rw c.as_slice.ensures at c.in_ok-floods.ensures in
     record {
-      ready = record { faultless = c.requires.faultless; built = c.requires.built };
+      ready = c.requires;
       law = c.in_ok-law.ensures;
-      clock = moment_first project (run_options project (record { faultless = c.requires.faultless; built = c.requires.built }));
-      now = opening_at project c.in_ok-nets.nets good (record { faultless = c.requires.faultless; built = c.requires.built }) c.in_ok-nets.ensures.state;
+      clock = moment_first project (run_options project (c.requires));
+      now = opening_at project c.in_ok-nets.nets good (c.requires) c.in_ok-nets.ensures.state;
       room = c.in_ok-before.ensures.fits (project_law project)
           (law_nodes project ∙ sym (ap length c.as_slice.ensures))
           (law_links project ∙ sym (ap length c.as_slice-2.ensures));

@@ -1,6 +1,7 @@
 use Rattle.std.proofs.Common.{length, sym, subst}
 use Rattle.link_eval.specs.Good.{IsGoodLink}
-use Rattle.link_eval.specs.Hydraulics.{no_link_law, link_law_at}
+use Rattle.link_eval.specs.Hydraulics.{link_law_at}
+use Rattle.link_eval.specs.LinkLaws.{no_link_law}
 use Rattle.link_eval.proofs.ListLemmas.{read_at}
 use Rattle.link_eval.proofs.hydraulic_law.HydraulicLaw.link.Goals as goal
 
@@ -11,4 +12,4 @@ returns-clause-value c =
 
 pub returns-clause-good : goal.returns-clause-good
 returns-clause-good c =
-    subst (IsGoodLink (length c.args.self.now.hydraulics.nodes)) (sym (returns-clause-value c)) (c.args.self.now.good.links c.args.link c.requires)
+    subst (IsGoodLink (length c.args.self.now.hydraulics.nodes) (length c.args.self.now.hydraulics.curves)) (sym (returns-clause-value c)) (c.args.self.now.good.links c.args.link c.requires)

@@ -1,0 +1,19 @@
+use Rattle.std.proofs.Common.{◌∙◌, ℤ, neg_ℤ, pos, ◌^◌, ◌+ℤ◌, ap, subst, List}
+use Rattle.fixed_num.specs.Lists.{number}
+use Rattle.fixed_num.specs.Ranges.{cut_of}
+use Rattle.runoff.specs.declared.states.SubState.{SubState}
+use Rattle.runoff_states.specs.RunoffStates.{runoff_state, state_at}
+use Rattle.runoff_states.specs.RunoffTimes.{node_runoff}
+use Rattle.runoff_states.proofs.KeptLemmas.{runoff_same}
+use Rattle.runoff_states.proofs.TimeLemmas.{one_count}
+use Rattle.runoff_states.proofs.kept.Runoff.add_to.Goals as goal
+
+pub returns-clause-sums : goal.returns-clause-sums
+returns-clause-sums c start most moment steps at done n inside =
+    let project = c.args.project.now in
+    let count = one_count project.options.wet_ms moment steps c.requires.sound.options.wet_in done in
+    let same = runoff_same project start steps c.args.self.now.states n at.states in
+    c.add_runoff.ensures.sums n inside
+    ∙ ap (λ (r : ℤ). cut_of (number c.args.laterals.now n +ℤ r) (neg_ℤ (pos (10 ^ 12))) (pos (10 ^ 12)))
+    (ap (λ (l : List SubState). node_runoff project (state_at l) n) c.as_slice.ensures ∙ same
+    ∙ ap (λ k. node_runoff project (runoff_state project start k) n) count)
