@@ -4,6 +4,7 @@ pub mod LawLemmas
 pub mod OpeningLemmas
 pub mod OpeningTops
 pub mod PreparedLemmas
+pub mod SettingLemmas
 pub mod StepLemmas
 pub mod StateLemmas
 pub mod ClockLemmas

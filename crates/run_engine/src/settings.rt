@@ -33,14 +33,15 @@ fn set_link(project: &Project, heads: &[i64], links: &[LinkFixed], l: u32) -> Li
     requires setting { IsPart (link_fixed_at links.now l).setting }
     ensures { result ≡ set_link project.now heads.now links.now l }
 {
-    let link = &links[l as usize];
+    let place = l as usize;
+    let own = project.links.as_slice();
+    let link = &own[place];
     let depth = first_depth(project, heads, l);
-    let kind = &project.links.as_slice()[l as usize].kind;
     LinkFixed {
-        q_old: link.q_old,
-        a_old: link.a_old,
-        setting: setting_by_depth(kind, depth, link.setting),
-        dt: link.dt,
+        q_old: links[place].q_old,
+        a_old: links[place].a_old,
+        setting: setting_by_depth(&link.kind, depth, links[place].setting),
+        dt: links[place].dt,
     }
 }
 
@@ -52,8 +53,11 @@ fn first_depth(project: &Project, heads: &[i64], l: u32) -> i64
     ensures value { result ≡ first_depth project.now heads.now l }
     ensures range { IsFall result }
 {
-    let node = project.links.as_slice()[l as usize].first as usize;
-    heads[node] - project.nodes.as_slice()[node].invert
+    let links = project.links.as_slice();
+    let nodes = project.nodes.as_slice();
+    let link = &links[l as usize];
+    let node = &nodes[link.first as usize];
+    heads[link.first as usize] - node.invert
 }
 
 // The setting of a link of this kind with this depth at its first node, whose setting was this.
@@ -64,7 +68,9 @@ fn setting_by_depth(kind: &LinkKind, depth: i64, setting: i64) -> i64
 {
     match kind {
         LinkKind::Pump {
-            startup, shutoff, ..
+            startup,
+            shutoff,
+            ..
         } => pump_setting(*startup, *shutoff, depth, setting),
         LinkKind::Conduit { .. } | LinkKind::Orifice { .. } | LinkKind::Weir { .. } => setting,
     }
