@@ -6,3 +6,4 @@ pub mod Order
 pub mod RuleLines
 pub mod RuleFaults
 pub mod Rules
+pub mod Grouping

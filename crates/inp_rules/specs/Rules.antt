@@ -57,9 +57,12 @@ test_lines_with part line = if are_tests (placed part (clause_at line)) then lin
 abbrev pub test_line_at : List Line → Line → List Line
 test_line_at before line = test_lines_with (own_part before) line
 
--- the tests of lines
+-- the test of a line, if it is without fault, and the tests of lines
+abbrev pub test_in : Context → Line → Option Test
+test_in known line = good_of (test_of known line.tokens)
+
 abbrev pub tests_in : Context → List Line → List Test
-tests_in known lines = filter_map (λ line. good_of (test_of known line.tokens)) lines
+tests_in known lines = filter_map (test_in known) lines
 
 -- the groups of a rule by its own lines
 unfoldable pub groups_of : Context → List Line → List (List Test)
@@ -100,10 +103,12 @@ rule_of known line own = record {
   priority6 = rule_priority known own;
 }
 
--- each RULE line gives one rule
+-- each RULE line gives one rule, by the lines after it
+abbrev pub rules_with : Context → Line → (after : List Line) → List Rule
+rules_with known line after = if begins_rule line then rule_of known line (own_lines after) ∷ [] else []
+
 abbrev pub rule_at : Context → (all : List Line) → List Line → Line → List Rule
-rule_at known all before line =
-    if begins_rule line then rule_of known line (own_lines (lines_after all before)) ∷ [] else []
+rule_at known all before line = rules_with known line (lines_after all before)
 
 -- The rules of lines, in the order of their RULE lines.
 unfoldable pub rules_of : Context → List Line → List Rule

@@ -10,8 +10,13 @@
 mod actions;
 mod clauses;
 mod conditions;
+mod faults;
+mod groups;
 mod order;
 mod priority;
+mod roles;
+mod rule_lines;
+mod rules;
 #[cfg(test)]
 mod tests;
 mod values;
@@ -22,3 +27,4 @@ pub use clauses::{Clause, clause_in};
 pub use conditions::read_test;
 pub use order::{RulePart, next_part, part_after};
 pub use priority::read_priority;
+pub use rules::read_rules;

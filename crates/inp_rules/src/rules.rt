@@ -1,14 +1,13 @@
 // The rules that lines give.
-ghost use Rattle.std.specs.Prelude.{◌≡◌, ◌++◌, [], IfOk, OnOk, map, get_or, set, length, ◌<◌, ◌∷◌};
+ghost use Rattle.std.specs.Prelude.{◌≡◌, ◌++◌, [], IfOk, OnOk, option_to_list};
 ghost use Rattle.std.specs.List.{last_or};
-ghost use Rattle.inp_lines.specs.declared.line.Line.{Line as DataLine};
 ghost use Rattle.inp_lines.specs.Faults.{cut};
 ghost use Rattle.inp_lines.specs.Gather.{gather};
 ghost use Rattle.inp_forms.specs.Context.{context_of};
 ghost use Rattle.inp_rules.specs.RuleFaults.{rule_fault};
-ghost use Rattle.inp_rules.specs.Rules.{actions_of as actions_of_lines, actions_with, are_actions, are_tests};
+ghost use Rattle.inp_rules.specs.Rules.{actions_of as actions_of_lines, actions_with, are_actions, good_of};
 ghost use Rattle.inp_rules.specs.Rules.{groups_of as groups_of_lines, is_end, priority_with, rule_of as rule_of_lines};
-ghost use Rattle.inp_rules.specs.Rules.{rule_priority, rules_of as rules_of_lines};
+ghost use Rattle.inp_rules.specs.Rules.{rule_priority, rules_of as rules_of_lines, rules_with};
 
 use crate::actions::read_action;
 use crate::faults::{RuleNames, read_faults};
@@ -17,7 +16,7 @@ use crate::order::RulePart;
 use crate::priority::read_priority;
 use crate::rule_lines::{begins_rule, own_lines, part_after_line, place_of};
 use inp_forms::Known;
-use inp_lines::{Line, copy_token, number_names};
+use inp_lines::{Fault, Line, copy_token, number_names};
 use net_types::{Action, LineFault, List, OutOfMemory, Rule};
 use std::alloc::Global;
 
