@@ -1,3 +1,4 @@
 pub mod LineLemmas
 pub mod GroupLemmas
 pub mod PieceLemmas
+pub mod PartLemmas

@@ -7,3 +7,4 @@ pub mod RuleLines
 pub mod RuleFaults
 pub mod Rules
 pub mod Grouping
+pub mod Laws
