@@ -1,8 +1,7 @@
 -- The groups of tests of a rule along a walk over its lines.
 use Rattle.std.proofs.Common.{◌≡◌, ◌∷◌, ◌++◌, [], ◌≤◌, ◌<◌, ◌+◌, ◌-◌, length, ℕ, zero, suc, List, Bool, true, false, not, cond, take, get_or, set, map}
 use Rattle.std.proofs.Common.{Option, Some, None, refl, ap, sym, ◌∙◌, arith, append-nil, filter_map, option_to_list}
-use Rattle.std.proofs.lemmas.List.Elements.{map-append}
-use Rattle.std.proofs.lemmas.List.{take_all}
+use Rattle.std.proofs.lemmas.List.{map-append, take_all}
 use Rattle.std.specs.List.{before_first, cons_option, prefix_len}
 use Rattle.net_types.specs.declared.rules.Test.{Test}
 use Rattle.inp_lines.specs.declared.line.Line.{Line}
@@ -31,7 +30,7 @@ module _ {A : Type 0} where
     first_cons y ys = go (opens y) where
       go : (b : Bool) → take (cond (not b) (1 + prefix_len (λ x. not (opens x)) ys) 0) (y ∷ ys) ≡ cond b [] (y ∷ take (prefix_len (λ x. not (opens x)) ys) ys)
       go true = refl
-      go false = refl
+      go false = ap (λ n. take n (y ∷ ys)) (omega arith)
 
     -- an item more that opens a run ends the last one
     first_open : (x : A) → opens x ≡ true → (ys : List A) → before_first opens (ys ++ x ∷ []) ≡ before_first opens ys
@@ -41,35 +40,35 @@ module _ {A : Type 0} where
     -- another one goes to the end where none opens a run before, and else changes nothing
     first_more : (x : A) → opens x ≡ false → (ys : List A) → runs opens ys ≡ [] → before_first opens (ys ++ x ∷ []) ≡ before_first opens ys ++ x ∷ []
     first_more x e [] none = first_cons x [] ∙ ap (λ b. cond b [] (x ∷ [])) e
-    first_more x e (y ∷ ys) none = first_cons y (ys ++ x ∷ []) ∙ (go (opens y) none ∙ ap (λ l. l ++ x ∷ []) (sym (first_cons y ys))) where
-      go : (b : Bool) → cond b ((y ∷ before_first opens ys) ∷ runs opens ys) (runs opens ys) ≡ [] → cond b [] (y ∷ before_first opens (ys ++ x ∷ [])) ≡ cond b [] (y ∷ before_first opens ys) ++ x ∷ []
-      go true h = absurd (cc)
-      go false h = ap (λ l. y ∷ l) (first_more x e ys h)
+    first_more x e (y ∷ ys) none = first_cons y (ys ++ x ∷ []) ∙ (go (opens y) none (first_more x e ys) ∙ ap (λ l. l ++ x ∷ []) (sym (first_cons y ys))) where
+      go : (b : Bool) → cond b ((y ∷ before_first opens ys) ∷ runs opens ys) (runs opens ys) ≡ [] → (runs opens ys ≡ [] → before_first opens (ys ++ x ∷ []) ≡ before_first opens ys ++ x ∷ []) → cond b [] (y ∷ before_first opens (ys ++ x ∷ [])) ≡ cond b [] (y ∷ before_first opens ys) ++ x ∷ []
+      go true h more = absurd (cc)
+      go false h more = ap (λ l. y ∷ l) (more h)
 
     first_stays : (x : A) → opens x ≡ false → (ys : List A) (r : List A) (rs : List (List A)) → runs opens ys ≡ r ∷ rs → before_first opens (ys ++ x ∷ []) ≡ before_first opens ys
     first_stays x e [] r rs some = absurd (cc)
-    first_stays x e (y ∷ ys) r rs some = first_cons y (ys ++ x ∷ []) ∙ (go (opens y) some ∙ sym (first_cons y ys)) where
-      go : (b : Bool) → cond b ((y ∷ before_first opens ys) ∷ runs opens ys) (runs opens ys) ≡ r ∷ rs → cond b [] (y ∷ before_first opens (ys ++ x ∷ [])) ≡ cond b [] (y ∷ before_first opens ys)
-      go true h = refl
-      go false h = ap (λ l. y ∷ l) (first_stays x e ys r rs h)
+    first_stays x e (y ∷ ys) r rs some = first_cons y (ys ++ x ∷ []) ∙ (go (opens y) some (first_stays x e ys r rs) ∙ sym (first_cons y ys)) where
+      go : (b : Bool) → cond b ((y ∷ before_first opens ys) ∷ runs opens ys) (runs opens ys) ≡ r ∷ rs → (runs opens ys ≡ r ∷ rs → before_first opens (ys ++ x ∷ []) ≡ before_first opens ys) → cond b [] (y ∷ before_first opens (ys ++ x ∷ [])) ≡ cond b [] (y ∷ before_first opens ys)
+      go true h more = refl
+      go false h more = ap (λ l. y ∷ l) (more h)
 
     pub runs_open : (x : A) → opens x ≡ true → (xs : List A) → runs opens (xs ++ x ∷ []) ≡ runs opens xs ++ (x ∷ []) ∷ []
     runs_open x e [] = ap (λ b. cond b ((x ∷ []) ∷ []) []) e
-    runs_open x e (y ∷ ys) = go (opens y) where
-      go : (b : Bool) → cond b ((y ∷ before_first opens (ys ++ x ∷ [])) ∷ runs opens (ys ++ x ∷ [])) (runs opens (ys ++ x ∷ [])) ≡ cond b ((y ∷ before_first opens ys) ∷ runs opens ys) (runs opens ys) ++ (x ∷ []) ∷ []
-      go true = ap (λ l. (y ∷ l) ∷ runs opens (ys ++ x ∷ [])) (first_open x e ys) ∙ ap (λ l. (y ∷ before_first opens ys) ∷ l) (runs_open x e ys)
-      go false = runs_open x e ys
+    runs_open x e (y ∷ ys) = go (opens y) (runs_open x e ys) where
+      go : (b : Bool) → runs opens (ys ++ x ∷ []) ≡ runs opens ys ++ (x ∷ []) ∷ [] → cond b ((y ∷ before_first opens (ys ++ x ∷ [])) ∷ runs opens (ys ++ x ∷ [])) (runs opens (ys ++ x ∷ [])) ≡ cond b ((y ∷ before_first opens ys) ∷ runs opens ys) (runs opens ys) ++ (x ∷ []) ∷ []
+      go true more = ap (λ l. (y ∷ l) ∷ runs opens (ys ++ x ∷ [])) (first_open x e ys) ∙ ap (λ l. (y ∷ before_first opens ys) ∷ l) more
+      go false more = more
 
     pub runs_more : (x : A) → opens x ≡ false → (xs : List A) → runs opens (xs ++ x ∷ []) ≡ with_last (runs opens xs) (x ∷ [])
     runs_more x e [] = ap (λ b. cond b ((x ∷ []) ∷ []) []) e
-    runs_more x e (y ∷ ys) = go (opens y) where
+    runs_more x e (y ∷ ys) = go (opens y) (runs_more x e ys) where
       one : (all : List (List A)) → runs opens ys ≡ all → (y ∷ before_first opens (ys ++ x ∷ [])) ∷ with_last all (x ∷ []) ≡ with_last ((y ∷ before_first opens ys) ∷ all) (x ∷ [])
       one [] h = ap (λ l. (y ∷ l) ∷ []) (first_more x e ys h)
       one (r ∷ rs) h = ap (λ l. (y ∷ l) ∷ with_last (r ∷ rs) (x ∷ [])) (first_stays x e ys r rs h)
 
-      go : (b : Bool) → cond b ((y ∷ before_first opens (ys ++ x ∷ [])) ∷ runs opens (ys ++ x ∷ [])) (runs opens (ys ++ x ∷ [])) ≡ with_last (cond b ((y ∷ before_first opens ys) ∷ runs opens ys) (runs opens ys)) (x ∷ [])
-      go true = ap (λ l. (y ∷ before_first opens (ys ++ x ∷ [])) ∷ l) (runs_more x e ys) ∙ one (runs opens ys) refl
-      go false = runs_more x e ys
+      go : (b : Bool) → runs opens (ys ++ x ∷ []) ≡ with_last (runs opens ys) (x ∷ []) → cond b ((y ∷ before_first opens (ys ++ x ∷ [])) ∷ runs opens (ys ++ x ∷ [])) (runs opens (ys ++ x ∷ [])) ≡ with_last (cond b ((y ∷ before_first opens ys) ∷ runs opens ys) (runs opens ys)) (x ∷ [])
+      go true more = ap (λ l. (y ∷ before_first opens (ys ++ x ∷ [])) ∷ l) more ∙ one (runs opens ys) refl
+      go false more = more
 
 -- ---- tests
 one_option : {A : Type 0} (o : Option A) → cons_option o [] ≡ option_to_list o

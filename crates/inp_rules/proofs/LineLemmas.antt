@@ -1,6 +1,6 @@
 -- How far a rule has come along its lines, which lines are its own, and walks over lines.
 use Rattle.std.proofs.Common.{◌≡◌, ◌∷◌, ◌++◌, [], ◌≤◌, ◌<◌, ◌+◌, length, ℕ, List, Bool, true, false, not, cond, take, drop, get_or}
-use Rattle.std.proofs.Common.{Option, Some, None, refl, ap, sym, ◌∙◌, arith, nat_lt, position, length-take}
+use Rattle.std.proofs.Common.{Option, Some, None, refl, ap, sym, ◌∙◌, arith, nat_lt, position, length-take, Result, Ok, Err, OnOk}
 use Rattle.std.proofs.lemmas.Bool.Decides.{nat_tests}
 use Rattle.std.proofs.lemmas.List.{take_all}
 use Rattle.std.specs.List.{before_first, last_or, position_or_len}
@@ -42,3 +42,8 @@ module _ {A : Type 0} (p : A → Bool) (xs : List A) where
 pub last_append : {A : Type 0} (o : Option A) (xs ys : List A) → last_or o (xs ++ ys) ≡ last_or (last_or o xs) ys
 last_append o [] ys = refl
 last_append o (x ∷ xs) ys = last_append (Some x) xs ys
+
+-- what follows where a call succeeds
+pub then_ok : {A E : Type 0} (r : Result A E) (P Q : Type 0) → OnOk r P → (P → Q) → OnOk r Q
+then_ok (Ok x) P Q h more = more h
+then_ok (Err e) P Q h more = tt

@@ -1,10 +1,12 @@
 -- The tests and actions of clauses that are read without fault are sound.
 use Rattle.std.proofs.Common.{◌≡◌, ◌≤◌, ◌<◌, ◌^◌, ◌+◌, ◌∷◌, [], ℕ, ℤ, pos, ◌≤ℤ◌, int_le, Bool, true, false, cond, List, length, nat_lt}
-use Rattle.std.proofs.Common.{Option, Some, None, Result, Ok, Err, refl, ap, sym, subst, ◌∙◌, arith, ints, codes}
+use Rattle.std.proofs.Common.{Option, Some, None, Result, Ok, Err, refl, ap, sym, subst, ◌∙◌, arith, codes}
+use Rattle.std.proofs.lemmas.Int.{ints}
 use Rattle.std.specs.Bool.{⊤}
 use Rattle.fixed_num.specs.Ranges.{IsBetween, IsCoefficient, IsPart, IsRaw}
 use Rattle.fixed_num.proofs.Bounds.{le_number, within_both, within_minus, within_number}
 use Rattle.net_types.specs.declared.faults.FaultKind.{FaultKind}
+use Rattle.net_types.specs.declared.faults.FaultKind.TheVariants as fault_kind
 use Rattle.net_types.specs.declared.project.Project.{Project}
 use Rattle.net_types.specs.declared.rules.Action.{Action}
 use Rattle.net_types.specs.declared.rules.Relation.{Relation}
@@ -46,6 +48,20 @@ use Rattle.inp_rules.specs.RuleValues.{subject_value, tested_value, up_to_one}
 use Rattle.inp_rules.specs.RuleWords.{actor_of, clock_look_of, is_outside, link_look_of, node_look_of, number_look, part_of, relation_of, watched_of}
 use Rattle.inp_rules.specs.Tests.{compared, least_of_test, looked_test, test_of, watched_test}
 
+-- a test and an action lie in their ranges, and their numbers name objects
+pub record IsSoundTest (project : Project) (test : Test) : Type 0 where
+  pub range : TestInRange test
+  pub names : TestNames project test
+
+pub record IsSoundAction (project : Project) (action : Action) : Type 0 where
+  pub range : ActionInRange action
+  pub names : ActionNames project action
+
+-- what a test may look at; the words of a status stand for a setting
+record IsLook (project : Project) (looked : Looked) : Type 0 where
+  names : SubjectNames project looked.subject
+  status : looked.by_status ≡ true → (z : ℤ) → IsCoefficient z → ValueInRange looked.subject z
+
 -- ---- what is chosen by words
 choice : {A : Type 0} (P : A → Type 0) (b : Bool) (a : A) (rest : Option A) (x : A) → P a → (rest ≡ Some x → P x) → cond b (Some a) rest ≡ Some x → P x
 choice P true a rest x p q e = let same : a ≡ x = cc in subst P same p
@@ -67,6 +83,9 @@ not_short : {A : Type 0} (b : Bool) (fault : Fault) (r : Result A Fault) (x : A)
 not_short true fault r x e = absurd (cc)
 not_short false fault r x e = (refl, e)
 
+same_value : {A : Type 0} (a b : A) (r s : Result A Fault) → r ≡ Ok a → s ≡ Ok b → r ≡ s → a ≡ b
+same_value a b r s p q e = cc
+
 module _ (known : Context) where
   -- ---- numbers
   checked_first : (b : Bool) (v w : Value) → cond b (and_then (new_name_of First) (λ _. Ok v)) (Ok v) ≡ Ok w → v ≡ w
@@ -83,10 +102,7 @@ module _ (known : Context) where
   number_means : (item : What) (text : List ℕ) (place : ℕ) (z : ℤ) → number_at known item text place ≡ Ok z → (v : Value) × IsValue known item text v × (amount_in v ≡ z)
   number_means item text place z e =
       let step = first_step (value_of known First item text place) (λ value. Ok (amount_in value)) z e in
-      let same : amount_in step.0 ≡ z = ok_same (amount_in step.0) z step.2 in
-      (step.0, value_means item text place step.0 step.1, same) where
-    ok_same : (a b : ℤ) → Ok {ℤ} {Fault} a ≡ Ok b → a ≡ b
-    ok_same a b h = cc
+      (step.0, value_means item text place step.0 step.1, same_value (amount_in step.0) z (Ok (amount_in step.0)) (Ok z) refl refl step.2)
 
   number_range : (of : Quantity) (text : List ℕ) (place : ℕ) (z : ℤ) → number_at known (what.Number of) text place ≡ Ok z → IsInRange known of z
   number_range of text place z e =
@@ -157,7 +173,7 @@ module _ (known : Context) where
 
   one_range : (v : ℤ) (place : ℕ) (z : ℤ) → IsCoefficient v → up_to_one v place ≡ Ok z → IsPart z
   one_range v place z range = go (int_le v (pos (10 ^ 6))) refl where
-    go : (b : Bool) → int_le v (pos (10 ^ 6)) ≡ b → cond b (Ok v) (Err (fault_of _ place)) ≡ Ok z → IsPart z
+    go : (b : Bool) → int_le v (pos (10 ^ 6)) ≡ b → cond b (Ok v) (Err (fault_of fault_kind.InvalidNumber place)) ≡ Ok z → IsPart z
     go true t e = let same : v ≡ z = cc in let below : v ≤ℤ pos (10 ^ 6) = grind (arith, ints) in subst IsPart same (record { from = range.from; to = below })
     go false t e = absurd (cc)
 
@@ -176,7 +192,7 @@ module _ (known : Context) where
 
   module _ (project : Project) (objects_are : NamesObjects known project) where
     -- ---- names
-    AreLinks : Objects → Type 0
+    abbrev AreLinks : Objects → Type 0
     AreLinks kind = (name : List ℕ) (n : ℕ) → object_number known kind name ≡ Some n → n < length project.links
 
     kept_some : (test : ℕ → Bool) (o : Option ℕ) (n : ℕ) → that_is test o ≡ Some n → o ≡ Some n
@@ -187,89 +203,79 @@ module _ (known : Context) where
       go false h = absurd (cc)
 
     links_in : AreLinks objects.Links
-    unfolding object_number AreLinks
+    unfolding object_number
     links_in name n e = objects_are.links name n e
 
     conduits_in : AreLinks objects.Conduits
-    unfolding object_number AreLinks
+    unfolding object_number
     conduits_in name n e = objects_are.links name n (kept_some _ (known.links name) n e)
 
     pumps_in : AreLinks objects.Pumps
-    unfolding object_number AreLinks
+    unfolding object_number
     pumps_in name n e = objects_are.links name n (kept_some _ (known.links name) n e)
 
     orifices_in : AreLinks objects.Orifices
-    unfolding object_number AreLinks
+    unfolding object_number
     orifices_in name n e = objects_are.links name n (kept_some _ (known.links name) n e)
 
     weirs_in : AreLinks objects.Weirs
-    unfolding object_number AreLinks
+    unfolding object_number
     weirs_in name n e = objects_are.links name n (kept_some _ (known.links name) n e)
 
     object_in : (kind : Objects) (name : List ℕ) (place n : ℕ) → object_at known kind name place ≡ Ok n → object_number known kind name ≡ Some n
     object_in kind name place n e = found_some (object_number known kind name) _ place n e
 
     -- ---- tests
-    -- what a test may look at
-    record IsLook (looked : Looked) : Type 0 where
-      names : SubjectNames project looked.subject
-      status : looked.by_status ≡ true → (z : ℤ) → IsCoefficient z → ValueInRange looked.subject z
-
-    number_sound : (look : Subject) → SubjectNames project look → IsLook (record { subject = look; by_status = false })
+    number_sound : (look : Subject) → SubjectNames project look → IsLook project (record { subject = look; by_status = false })
     number_sound look names = record { names = names; status = λ e z range. absurd (cc) }
 
-    node_look : (n : ℕ) (word : List ℕ) (looked : Looked) → n < length project.nodes → node_look_of n word ≡ Some looked → IsLook looked
+    node_look : (n : ℕ) (word : List ℕ) (looked : Looked) → n < length project.nodes → node_look_of n word ≡ Some looked → IsLook project looked
     node_look n word looked h =
-        choice IsLook (same_word word (codes "DEPTH")) _ _ looked (number_sound (subject.NodeDepth n) h)
-        (choice IsLook (same_word word (codes "HEAD")) _ _ looked (number_sound (subject.NodeHead n) h)
-        (choice IsLook (same_word word (codes "INFLOW")) _ _ looked (number_sound (subject.NodeInflow n) h) (no_choice IsLook looked)))
+        choice (IsLook project) (same_word word (codes "DEPTH")) _ _ looked (number_sound (subject.NodeDepth n) h)
+        (choice (IsLook project) (same_word word (codes "HEAD")) _ _ looked (number_sound (subject.NodeHead n) h)
+        (choice (IsLook project) (same_word word (codes "INFLOW")) _ _ looked (number_sound (subject.NodeInflow n) h) (no_choice (IsLook project) looked)))
 
-    link_look : (n : ℕ) (word : List ℕ) (looked : Looked) → n < length project.links → link_look_of n word ≡ Some looked → IsLook looked
+    link_look : (n : ℕ) (word : List ℕ) (looked : Looked) → n < length project.links → link_look_of n word ≡ Some looked → IsLook project looked
     link_look n word looked h =
-        choice IsLook (same_word word (codes "FLOW")) _ _ looked (number_sound (subject.LinkFlow n) h)
-        (choice IsLook (same_word word (codes "SETTING")) _ _ looked (number_sound (subject.LinkSetting n) h)
-        (choice IsLook (same_word word (codes "STATUS")) _ _ looked (record { names = h; status = λ e z range. range }) (no_choice IsLook looked)))
+        choice (IsLook project) (same_word word (codes "FLOW")) _ _ looked (number_sound (subject.LinkFlow n) h)
+        (choice (IsLook project) (same_word word (codes "SETTING")) _ _ looked (number_sound (subject.LinkSetting n) h)
+        (choice (IsLook project) (same_word word (codes "STATUS")) _ _ looked (record { names = h; status = λ e z range. range }) (no_choice (IsLook project) looked)))
 
-    clock_look : (word : List ℕ) (looked : Looked) → clock_look_of word ≡ Some looked → IsLook looked
+    clock_look : (word : List ℕ) (looked : Looked) → clock_look_of word ≡ Some looked → IsLook project looked
     clock_look word looked =
-        choice IsLook (same_word word (codes "TIME")) _ _ looked (number_sound subject.Elapsed tt)
-        (choice IsLook (same_word word (codes "CLOCKTIME")) _ _ looked (number_sound subject.ClockTime tt)
-        (choice IsLook (same_word word (codes "MONTH")) _ _ looked (number_sound subject.Month tt)
-        (choice IsLook (same_word word (codes "DAY")) _ _ looked (number_sound subject.Weekday tt) (no_choice IsLook looked))))
+        choice (IsLook project) (same_word word (codes "TIME")) _ _ looked (number_sound subject.Elapsed tt)
+        (choice (IsLook project) (same_word word (codes "CLOCKTIME")) _ _ looked (number_sound subject.ClockTime tt)
+        (choice (IsLook project) (same_word word (codes "MONTH")) _ _ looked (number_sound subject.Month tt)
+        (choice (IsLook project) (same_word word (codes "DAY")) _ _ looked (number_sound subject.Weekday tt) (no_choice (IsLook project) looked))))
 
-    pub record IsSoundTest (test : Test) : Type 0 where
-      pub range : TestInRange test
-      pub names : TestNames project test
-
-    tested_range : (looked : Looked) (text : List ℕ) (place : ℕ) (z : ℤ) → IsLook looked → tested_value known looked text place ≡ Ok z → ValueInRange looked.subject z
+    tested_range : (looked : Looked) (text : List ℕ) (place : ℕ) (z : ℤ) → IsLook project looked → tested_value known looked text place ≡ Ok z → ValueInRange looked.subject z
     unfolding tested_value
     tested_range looked text place z is = go looked.by_status refl where
-      go : (b : Bool) → looked.by_status ≡ b → cond b (found_or (either_status text) _ place) (subject_value known looked.subject text place) ≡ Ok z → ValueInRange looked.subject z
+      go : (b : Bool) → looked.by_status ≡ b → cond b (found_or (either_status text) fault_kind.InvalidKeyword place) (subject_value known looked.subject text place) ≡ Ok z → ValueInRange looked.subject z
       go true h e = is.status h z (either_range text z (found_some (either_status text) _ place z e))
       go false h e = subject_range looked.subject text place z e
 
-    compared_sound : (tokens : List (List ℕ)) (place : ℕ) (looked : Looked) (test : Test) → IsLook looked → compared known tokens place looked ≡ Ok test → IsSoundTest test
+    compared_sound : (tokens : List (List ℕ)) (place : ℕ) (looked : Looked) (test : Test) → IsLook project looked → compared known tokens place looked ≡ Ok test → IsSoundTest project test
     unfolding compared
     compared_sound tokens place looked test is e =
         let sign = first_step (found_or (relation_of (token_at tokens place)) _ place) _ test e in
         let value = first_step (tested_value known looked (token_at tokens (place + 1)) (place + 1)) _ test sign.2 in
-        made sign.0 value.0 (tested_range looked (token_at tokens (place + 1)) (place + 1) value.0 is value.1) value.2 where
-      made : (how : Relation) (z : ℤ) → ValueInRange looked.subject z → Ok {Test} {Fault} (record { subject = looked.subject; relation = how; value = z }) ≡ Ok test → IsSoundTest test
-      made how z range h = let same : record { subject = looked.subject; relation = how; value = z } ≡ test = cc in
-          subst IsSoundTest same (record { range = record { value_in = range }; names = record { subject = is.names } })
+        made sign.0 value.0 (tested_range looked (token_at tokens (place + 1)) (place + 1) value.0 is value.1) _ refl value.2 where
+      made : (how : Relation) (z : ℤ) → ValueInRange looked.subject z → (r : Result Test Fault) → r ≡ Ok (record { subject = looked.subject; relation = how; value = z }) → r ≡ Ok test → IsSoundTest project test
+      made how z range r p q = let same = same_value (record { subject = looked.subject; relation = how; value = z }) test r r p q refl in
+          subst (IsSoundTest project) same (record { range = record { value_in = range }; names = record { subject = is.names } })
 
-    looked_sound : (tokens : List (List ℕ)) (place : ℕ) (o : Option Looked) (test : Test) → ((looked : Looked) → o ≡ Some looked → IsLook looked) → looked_test known tokens place o ≡ Ok test → IsSoundTest test
+    looked_sound : (tokens : List (List ℕ)) (place : ℕ) (o : Option Looked) (test : Test) → ((looked : Looked) → o ≡ Some looked → IsLook project looked) → looked_test known tokens place o ≡ Ok test → IsSoundTest project test
     looked_sound tokens place None test is e = absurd (cc)
     looked_sound tokens place (Some looked) test is e = compared_sound tokens (place + 1) looked test (is looked refl) e
 
     -- a link that is watched is one of a kind of links
-    AreWatched : Watched → Type 0
+    abbrev AreWatched : Watched → Type 0
     AreWatched watched.Node = ⊤
     AreWatched (watched.Link kind) = AreLinks kind
     AreWatched watched.Simulation = ⊤
 
     watched_in : (word : List ℕ) (found : Watched) → watched_of word ≡ Some found → AreWatched found
-    unfolding AreWatched
     watched_in word found =
         choice AreWatched (same_word word (codes "NODE")) _ _ found tt
         (choice AreWatched (same_word word (codes "LINK")) _ _ found links_in
@@ -279,8 +285,7 @@ module _ (known : Context) where
         (choice AreWatched (same_word word (codes "WEIR")) _ _ found weirs_in
         (choice AreWatched (same_word word (codes "SIMULATION")) _ _ found tt (no_choice AreWatched found)))))))
 
-    watched_sound : (tokens : List (List ℕ)) (o : Option Watched) (test : Test) → ((found : Watched) → o ≡ Some found → AreWatched found) → watched_test known tokens o ≡ Ok test → IsSoundTest test
-    unfolding AreWatched AreLinks object_number
+    watched_sound : (tokens : List (List ℕ)) (o : Option Watched) (test : Test) → ((found : Watched) → o ≡ Some found → AreWatched found) → watched_test known tokens o ≡ Ok test → IsSoundTest project test
     watched_sound tokens None test is e = absurd (cc)
     watched_sound tokens (Some watched.Node) test is e =
         let node = first_step (object_at known objects.Nodes (token_at tokens 2) 2) _ test e in
@@ -293,17 +298,13 @@ module _ (known : Context) where
     watched_sound tokens (Some watched.Simulation) test is e =
         looked_sound tokens 2 (clock_look_of (token_at tokens 2)) test (λ looked. clock_look (token_at tokens 2) looked) e
 
-    pub test_sound : (tokens : List (List ℕ)) (test : Test) → test_of known tokens ≡ Ok test → IsSoundTest test
+    pub test_sound : (tokens : List (List ℕ)) (test : Test) → test_of known tokens ≡ Ok test → IsSoundTest project test
     unfolding test_of
     test_sound tokens test e =
         let long = not_short (nat_lt (length tokens) (least_of_test (token_at tokens 1))) (too_few_of tokens) (watched_test known tokens (watched_of (token_at tokens 1))) test e in
         watched_sound tokens (watched_of (token_at tokens 1)) test (λ found. watched_in (token_at tokens 1) found) long.1
 
     -- ---- actions
-    pub record IsSoundAction (action : Action) : Type 0 where
-      pub range : ActionInRange action
-      pub names : ActionNames project action
-
     actor_in : (word : List ℕ) (kind : Objects) → actor_of word ≡ Some kind → AreLinks kind
     actor_in word kind =
         choice AreLinks (same_word word (codes "PUMP")) _ _ kind pumps_in
@@ -311,29 +312,28 @@ module _ (known : Context) where
         (choice AreLinks (same_word word (codes "ORIFICE")) _ _ kind orifices_in
         (choice AreLinks (same_word word (codes "WEIR")) _ _ kind weirs_in (no_choice AreLinks kind))))
 
-    set_sound : (tokens : List (List ℕ)) (n : ℕ) (set : Part) (action : Action) → n < length project.links → setting_action known tokens n set ≡ Ok action → IsSoundAction action
+    set_sound : (tokens : List (List ℕ)) (n : ℕ) (set : Part) (action : Action) → n < length project.links → setting_action known tokens n set ≡ Ok action → IsSoundAction project action
     unfolding setting_action
     set_sound tokens n set action h = go (same_word (token_at tokens 4) (codes "=")) where
-      made : (z : ℤ) → IsPart z → Ok {Action} {Fault} (record { link = n; setting6 = z }) ≡ Ok action → IsSoundAction action
-      made z range e = let same : record { link = n; setting6 = z } ≡ action = cc in
-          subst IsSoundAction same (record { range = record { setting_in = range }; names = record { link = h } })
+      made : (z : ℤ) → IsPart z → (r : Result Action Fault) → r ≡ Ok (record { link = n; setting6 = z }) → r ≡ Ok action → IsSoundAction project action
+      made z range r p q = let same = same_value (record { link = n; setting6 = z }) action r r p q refl in
+          subst (IsSoundAction project) same (record { range = record { setting_in = range }; names = record { link = h } })
 
-      go : (b : Bool) → cond b (and_then (set_value known set (token_at tokens 5) 5) (λ setting. Ok (record { link = n; setting6 = setting }))) (Err (fault_of _ 4)) ≡ Ok action → IsSoundAction action
-      go true e = let value = first_step (set_value known set (token_at tokens 5) 5) _ action e in made value.0 (set_range set (token_at tokens 5) 5 value.0 value.1) value.2
+      go : (b : Bool) → cond b (and_then (set_value known set (token_at tokens 5) 5) (λ setting. Ok (record { link = n; setting6 = setting }))) (Err (fault_of fault_kind.InvalidKeyword 4)) ≡ Ok action → IsSoundAction project action
+      go true e = let value = first_step (set_value known set (token_at tokens 5) 5) _ action e in made value.0 (set_range set (token_at tokens 5) 5 value.0 value.1) _ refl value.2
       go false e = absurd (cc)
 
-    part_sound : (tokens : List (List ℕ)) (n : ℕ) (o : Option Part) (action : Action) → n < length project.links → part_action known tokens n o ≡ Ok action → IsSoundAction action
+    part_sound : (tokens : List (List ℕ)) (n : ℕ) (o : Option Part) (action : Action) → n < length project.links → part_action known tokens n o ≡ Ok action → IsSoundAction project action
     part_sound tokens n None action h e = absurd (cc)
     part_sound tokens n (Some set) action h e = set_sound tokens n set action h e
 
-    actor_sound : (tokens : List (List ℕ)) (o : Option Objects) (action : Action) → ((kind : Objects) → o ≡ Some kind → AreLinks kind) → actor_action known tokens o ≡ Ok action → IsSoundAction action
-    unfolding AreLinks
+    actor_sound : (tokens : List (List ℕ)) (o : Option Objects) (action : Action) → ((kind : Objects) → o ≡ Some kind → AreLinks kind) → actor_action known tokens o ≡ Ok action → IsSoundAction project action
     actor_sound tokens None action is e = absurd (cc)
     actor_sound tokens (Some kind) action is e =
         let link = first_step (object_at known kind (token_at tokens 2) 2) _ action e in
         part_sound tokens link.0 (part_of kind (token_at tokens 3)) action (is kind refl (token_at tokens 2) link.0 (object_in kind (token_at tokens 2) 2 link.0 link.1)) link.2
 
-    pub action_sound : (tokens : List (List ℕ)) (action : Action) → action_of known tokens ≡ Ok action → IsSoundAction action
+    pub action_sound : (tokens : List (List ℕ)) (action : Action) → action_of known tokens ≡ Ok action → IsSoundAction project action
     unfolding action_of
     action_sound tokens action e =
         let long = not_short (nat_lt (length tokens) 6) (too_few_of tokens) (actor_action known tokens (actor_of (token_at tokens 1))) action e in
