@@ -32,7 +32,7 @@ use Rattle.inp_rules.specs.RuleLines.{begins_rule, clause_at, is_rule, lines_aft
 use Rattle.inp_rules.specs.Rules.{action_at, actions_of, are_actions, are_tests, begins_group, good_of, groups_of, rule_at, rule_of, rules_of, test_in}
 use Rattle.inp_rules.proofs.GroupLemmas.{groups_none, groups_push}
 use Rattle.inp_rules.proofs.OrderLemmas.{actions_are, tests_are}
-use Rattle.inp_rules.proofs.SoundLemmas.{after_split, good_at, good_line, good_rule, line_longer, own_other, own_rule, part_in_rule}
+use Rattle.inp_rules.proofs.SoundLemmas.{after_split, good_at, good_line, good_rule, own_all, own_other, own_rule, part_in_rule}
 use Rattle.inp_rules.proofs.WalkLemmas.{IsGoodAt, good_clause}
 
 -- ---- the number of rules
@@ -69,7 +69,7 @@ total_last (group ∷ next ∷ groups) more = omega (arith, total_last (next ∷
 total_group : (groups : List (List Test)) (more : List Test) (begins : Bool) → total (cond begins (groups ++ more ∷ []) (with_last groups more)) ≤ total groups + length more
 total_group groups more true = omega (arith, total_append groups (more ∷ []), one more) where
   one : (more : List Test) → total (more ∷ []) ≡ length more
-    one more = omega arith
+  one more = omega arith
 total_group groups more false = total_last groups more
 
 one_at_most : {A : Type 0} (o : Option A) → length (option_to_list o) ≤ 1
@@ -151,29 +151,19 @@ module _ (known : Context) where
 
   module _ (all : List Line) (faultless : AreFaultless known all) where
     -- the tests and actions of a rule are among those of its lines
-    own_few : (before : List Line) (line : Line) (xs rest : List Line) → all ≡ (before ++ line ∷ xs) ++ rest → begins_rule line ≡ true → size_so_far xs ≤ length (gather piece_at (before ++ line ∷ []) xs)
-        → size_so_far (xs ++ own_lines rest) ≤ length (gather piece_at (before ++ line ∷ []) (xs ++ own_lines rest))
-    own_few before line xs [] e h few = subst (λ l. size_so_far l ≤ length (gather piece_at (before ++ line ∷ []) l)) (sym (append-nil xs)) few
-    own_few before line xs (y ∷ rest) e h few = go (begins_rule y) refl (own_few before line (xs ++ y ∷ []) rest (e ∙ line_longer before line xs y rest) h) where
-      part_is : part_of ((before ++ line ∷ []) ++ xs) ≡ own_part xs
-      part_is = ap part_of (append_assoc before (line ∷ []) xs) ∙ part_in_rule before line xs h
+    one_counted : (start xs : List Line) (y : Line) → part_of (start ++ xs) ≡ own_part xs → length (gather piece_at start (xs ++ y ∷ [])) ≡ length (gather piece_at start xs) + one_if (gives_piece (own_part xs) y)
+    one_counted start xs y part_is = ap length (gather_append piece_at start xs (y ∷ []) ∙ ap (λ l. gather piece_at start xs ++ l) (append-nil (piece_at (start ++ xs) y)))
+        ∙ (length-append (gather piece_at start xs) (piece_at (start ++ xs) y)
+        ∙ ap (λ n. length (gather piece_at start xs) + n) (length_if (gives_piece (part_of (start ++ xs)) y) y ∙ ap (λ part. one_if (gives_piece part y)) part_is))
 
-      counted : length (gather piece_at (before ++ line ∷ []) (xs ++ y ∷ [])) ≡ length (gather piece_at (before ++ line ∷ []) xs) + one_if (gives_piece (own_part xs) y)
-      counted = ap length (gather_append piece_at (before ++ line ∷ []) xs (y ∷ []) ∙ ap (λ l. gather piece_at (before ++ line ∷ []) xs ++ l) (append-nil (piece_at ((before ++ line ∷ []) ++ xs) y)))
-          ∙ (length-append (gather piece_at (before ++ line ∷ []) xs) (piece_at ((before ++ line ∷ []) ++ xs) y)
-          ∙ ap (λ n. length (gather piece_at (before ++ line ∷ []) xs) + n) (length_if (gives_piece (part_of ((before ++ line ∷ []) ++ xs)) y) y ∙ ap (λ part. one_if (gives_piece part y)) part_is))
-
-      go : (b : Bool) → begins_rule y ≡ b → (size_so_far (xs ++ y ∷ []) ≤ length (gather piece_at (before ++ line ∷ []) (xs ++ y ∷ [])) → size_so_far ((xs ++ y ∷ []) ++ own_lines rest) ≤ length (gather piece_at (before ++ line ∷ []) ((xs ++ y ∷ []) ++ own_lines rest))) → size_so_far (xs ++ own_lines (y ∷ rest)) ≤ length (gather piece_at (before ++ line ∷ []) (xs ++ own_lines (y ∷ rest)))
-      go true t later = subst (λ l. size_so_far l ≤ length (gather piece_at (before ++ line ∷ []) l)) (sym (ap (λ l. xs ++ l) (own_rule y rest t) ∙ append-nil xs)) few
-      go false t later =
-          let is : IsGoodAt known (own_part xs) y = subst (λ part. IsGoodAt known part y) (part_in_rule before line xs h) (good_at known all faultless (before ++ line ∷ xs) y rest e t) in
-          let next : size_so_far (xs ++ y ∷ []) ≤ length (gather piece_at (before ++ line ∷ []) (xs ++ y ∷ [])) = omega (arith, few, size_more xs y is, counted) in
-          subst (λ l. size_so_far l ≤ length (gather piece_at (before ++ line ∷ []) l)) (append_assoc xs (y ∷ []) (own_lines rest) ∙ ap (λ l. xs ++ l) (sym (own_other y rest t)))
-              (later next)
+    own_few : (before : List Line) (line : Line) (rest : List Line) → all ≡ before ++ line ∷ rest → begins_rule line ≡ true → size_so_far (own_lines rest) ≤ length (gather piece_at (before ++ line ∷ []) (own_lines rest))
+    own_few before line rest e h = own_all known all faultless (λ xs. size_so_far xs ≤ length (gather piece_at (before ++ line ∷ []) xs))
+        (λ xs y is few. omega (arith, few, size_more xs y is, one_counted (before ++ line ∷ []) xs y (ap part_of (append_assoc before (line ∷ []) xs) ∙ part_in_rule before line xs h)))
+        before line [] rest (e ∙ sym (append_assoc before (line ∷ []) rest)) h (omega (arith, size_none))
 
     rule_few : (before : List Line) (line : Line) (rest : List Line) → all ≡ before ++ line ∷ rest → begins_rule line ≡ true → size_of (rule_of known line (own_lines rest)) ≤ length (gather piece_at (before ++ line ∷ []) (own_lines rest))
     unfolding rule_of
-    rule_few before line rest e h = own_few before line [] rest (e ∙ sym (append_assoc before (line ∷ []) rest)) h (omega (arith, size_none))
+    rule_few before line rest e h = own_few before line rest e h
 
     sum_few : (before lines : List Line) → all ≡ before ++ lines → sum_by size_of (gather (rule_at known all) before lines) + length (gather piece_at before (own_lines lines)) ≤ length (gather piece_at before lines)
     sum_few before [] e = omega arith

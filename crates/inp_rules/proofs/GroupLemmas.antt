@@ -30,7 +30,7 @@ module _ {A : Type 0} where
     first_cons y ys = go (opens y) where
       go : (b : Bool) → take (cond (not b) (1 + prefix_len (λ x. not (opens x)) ys) 0) (y ∷ ys) ≡ cond b [] (y ∷ take (prefix_len (λ x. not (opens x)) ys) ys)
       go true = refl
-      go false = ap (λ n. take n (y ∷ ys)) (omega arith)
+      go false = let more : 1 + prefix_len (λ x. not (opens x)) ys ≡ suc (prefix_len (λ x. not (opens x)) ys) = omega arith in ap (λ n. take n (y ∷ ys)) more
 
     -- an item more that opens a run ends the last one
     first_open : (x : A) → opens x ≡ true → (ys : List A) → before_first opens (ys ++ x ∷ []) ≡ before_first opens ys
@@ -95,7 +95,7 @@ module _ (known : Context) where
       ∙ ap (λ g. map (tests_in known) (runs begins_group lines) ++ g ∷ []) (one_option (test_in known line)))
   test_more lines line false e = ap (map (tests_in known)) (runs_more begins_group line e lines) ∙ tests_last (runs begins_group lines) line
 
-  groups_push : (own : List Line) (line : Line) → groups_of known (own ++ line ∷ []) ≡ groups_with known (own_part own) line (groups_of known own)
+  pub groups_push : (own : List Line) (line : Line) → groups_of known (own ++ line ∷ []) ≡ groups_with known (own_part own) line (groups_of known own)
   unfolding groups_of
   groups_push own line = ap (λ l. map (tests_in known) (runs begins_group l)) (gather_push test_line_at own line) ∙ go (are_tests (placed (own_part own) (clause_at line))) where
     go : (b : Bool) → map (tests_in known) (runs begins_group (gather test_line_at [] own ++ cond b (line ∷ []) [])) ≡ cond b (with_test known line (map (tests_in known) (runs begins_group (gather test_line_at [] own)))) (map (tests_in known) (runs begins_group (gather test_line_at [] own)))

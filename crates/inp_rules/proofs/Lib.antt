@@ -6,3 +6,4 @@ pub mod PartLemmas
 pub mod WalkLemmas
 pub mod SoundLemmas
 pub mod FewLemmas
+pub mod MeaningLemmas

@@ -1,13 +1,16 @@
 -- How far a rule has come along its lines, which lines are its own, and walks over lines.
 use Rattle.std.proofs.Common.{◌≡◌, ◌∷◌, ◌++◌, [], ◌≤◌, ◌<◌, ◌+◌, length, ℕ, List, Bool, true, false, not, cond, take, drop, get_or}
-use Rattle.std.proofs.Common.{Option, Some, None, refl, ap, sym, ◌∙◌, arith, nat_lt, position, length-take, Result, Ok, Err, OnOk}
+use Rattle.std.proofs.Common.{Option, Some, None, refl, ap, sym, ◌∙◌, arith, nat_lt, position, length-take, length-drop, ◌-◌, Result, Ok, Err, OnOk}
 use Rattle.std.proofs.lemmas.Bool.Decides.{nat_tests}
 use Rattle.std.proofs.lemmas.List.{take_all}
 use Rattle.std.specs.List.{before_first, last_or, position_or_len}
 use Rattle.inp_lines.specs.declared.line.Line.{Line}
+use Rattle.inp_lines.specs.declared.names.Naming.{Naming}
 use Rattle.inp_lines.proofs.GatherLemmas.{line_push}
+use Rattle.inp_forms.specs.Context.{Context}
 use Rattle.inp_rules.specs.declared.order.RulePart.{RulePart}
 use Rattle.inp_rules.specs.Order.{part_after}
+use Rattle.inp_rules.specs.RuleFaults.{fault_with}
 use Rattle.inp_rules.specs.RuleLines.{clause_at, lines_after, part_from}
 
 pub part_push : (part : RulePart) (lines : List Line) (line : Line) → part_from part (lines ++ line ∷ []) ≡ part_after (part_from part lines) (clause_at line)
@@ -22,8 +25,11 @@ pub part_all : (part : RulePart) (lines : List Line) (i : ℕ) → length lines 
 part_all part lines i h = ap (part_from part) (take_all i lines h)
 
 -- the lines after the next of a loop
-pub after_next : (lines : List Line) (i next : ℕ) → i < length lines → next ≡ i + 1 → drop next lines ≡ lines_after lines (take i lines)
-after_next lines i next h e = ap (λ n. drop n lines) (omega (arith, e, h, length-take i lines))
+pub after_next : (lines : List Line) (i next : ℕ) → i < length lines → next ≡ i + 1 → take (length lines - next) (drop next lines) ≡ lines_after lines (take i lines)
+after_next lines i next h e =
+    let all : length (drop next lines) ≤ length lines - next = omega (arith, length-drop next lines) in
+    let same : next ≡ length (take i lines) + 1 = omega (arith, e, h, length-take i lines) in
+    take_all (length lines - next) (drop next lines) all ∙ ap (λ n. drop n lines) same
 
 -- what stands before the first place where a test passes
 module _ {A : Type 0} (p : A → Bool) (xs : List A) where
@@ -47,3 +53,7 @@ last_append o (x ∷ xs) ys = last_append (Some x) xs ys
 pub then_ok : {A E : Type 0} (r : Result A E) (P Q : Type 0) → OnOk r P → (P → Q) → OnOk r Q
 then_ok (Ok x) P Q h more = more h
 then_ok (Err e) P Q h more = tt
+
+-- the fault of a line by what it is told of
+pub fault_same : (known : Context) {p q : RulePart} {a b : Bool} {s t : Naming} {x y : List Line} (line : Line) → p ≡ q → a ≡ b → s ≡ t → x ≡ y → fault_with known p a s x line ≡ fault_with known q b t y line
+fault_same known line of_part of_full of_name of_after = λ i. fault_with known (of_part i) (of_full i) (of_name i) (of_after i) line

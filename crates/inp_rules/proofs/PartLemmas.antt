@@ -286,6 +286,7 @@ module _ (known : Context) where
         (choice AreWatched (same_word word (codes "SIMULATION")) _ _ found tt (no_choice AreWatched found)))))))
 
     watched_sound : (tokens : List (List ℕ)) (o : Option Watched) (test : Test) → ((found : Watched) → o ≡ Some found → AreWatched found) → watched_test known tokens o ≡ Ok test → IsSoundTest project test
+    unfolding object_number
     watched_sound tokens None test is e = absurd (cc)
     watched_sound tokens (Some watched.Node) test is e =
         let node = first_step (object_at known objects.Nodes (token_at tokens 2) 2) _ test e in

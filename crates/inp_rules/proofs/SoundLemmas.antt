@@ -1,5 +1,5 @@
 -- Rules of lines that are without fault are sound, and there are as few of them as may be.
-use Rattle.std.proofs.Common.{◌≡◌, ◌≤◌, ◌<◌, ◌+◌, ◌∷◌, ◌++◌, [], ℕ, Bool, true, false, not, ◌&&◌, ◌||◌, cond, List, length, length-append, drop, sum_by}
+use Rattle.std.proofs.Common.{◌≡◌, ◌≤◌, ◌<◌, ◌+◌, ◌∷◌, ◌++◌, [], ℕ, suc, Bool, true, false, not, ◌&&◌, ◌||◌, cond, List, length, length-append, drop, sum_by}
 use Rattle.std.proofs.Common.{Option, Some, None, is_some, is_none, option_to_list, refl, ap, sym, subst, ◌∙◌, arith, nat_lt, nat_le, append_assoc, append-nil}
 use Rattle.std.specs.List.{All, before_first}
 use Rattle.std.proofs.lemmas.Bool.Decides.{nat_tests}
@@ -75,7 +75,8 @@ not_found line (Some fault) e = absurd (cc)
 
 pub after_split : (before : List Line) (line : Line) (rest : List Line) → lines_after (before ++ line ∷ rest) before ≡ rest
 after_split [] line rest = refl
-after_split (x ∷ before) line rest = ap (λ n. drop n (x ∷ (before ++ line ∷ rest))) (omega arith) ∙ after_split before line rest
+after_split (x ∷ before) line rest = let more : length (x ∷ before) + 1 ≡ suc (length before + 1) = omega arith in
+    ap (λ n. drop n (x ∷ (before ++ line ∷ rest))) more ∙ after_split before line rest
 
 pub line_longer : (before : List Line) (line : Line) (xs : List Line) (y : Line) (rest : List Line) → (before ++ line ∷ xs) ++ y ∷ rest ≡ (before ++ line ∷ (xs ++ y ∷ [])) ++ rest
 line_longer before line xs y rest = append_assoc before (line ∷ xs) (y ∷ rest) ∙ (ap (λ l. before ++ line ∷ l) (sym (append_assoc xs (y ∷ []) rest)) ∙ sym (append_assoc before (line ∷ (xs ++ y ∷ [])) rest))
@@ -164,16 +165,20 @@ module _ (known : Context) (all : List Line) (faultless : AreFaultless known all
           ∙ (ap (λ b. cond b (fault_by_clause known (part_of before) (is_full before) standing (lines_after all before) line.tokens (clause_at line)) None) (sym here)
           ∙ good.1)))
 
+  -- what holds of no lines, and of one line more that isn't at fault, holds of the own lines of a rule
+  pub own_all : (P : List Line → Type 0) → ((own : List Line) (line : Line) → IsGoodAt known (own_part own) line → P own → P (own ++ line ∷ []))
+      → (before : List Line) (line : Line) (xs rest : List Line) → all ≡ (before ++ line ∷ xs) ++ rest → begins_rule line ≡ true → P xs → P (xs ++ own_lines rest)
+  own_all P step before line xs [] e h p = subst P (sym (append-nil xs)) p
+  own_all P step before line xs (y ∷ rest) e h p = go (begins_rule y) refl (own_all P step before line (xs ++ y ∷ []) rest (e ∙ line_longer before line xs y rest) h) where
+    go : (b : Bool) → begins_rule y ≡ b → (P (xs ++ y ∷ []) → P ((xs ++ y ∷ []) ++ own_lines rest)) → P (xs ++ own_lines (y ∷ rest))
+    go true t later = subst P (sym (ap (λ l. xs ++ l) (own_rule y rest t) ∙ append-nil xs)) p
+    go false t later =
+        let is : IsGoodAt known (own_part xs) y = subst (λ part. IsGoodAt known part y) (part_in_rule before line xs h) (good_at (before ++ line ∷ xs) y rest e t) in
+        subst P (append_assoc xs (y ∷ []) (own_lines rest) ∙ ap (λ l. xs ++ l) (sym (own_other y rest t))) (later (step xs y is p))
+
   module _ (project : Project) (objects_are : NamesObjects known project) where
-    own_sound : (before : List Line) (line : Line) (xs rest : List Line) → all ≡ (before ++ line ∷ xs) ++ rest → begins_rule line ≡ true → IsSoundSoFar known project xs → IsSoundSoFar known project (xs ++ own_lines rest)
-    own_sound before line xs [] e h so_far = subst (IsSoundSoFar known project) (sym (append-nil xs)) so_far
-    own_sound before line xs (y ∷ rest) e h so_far = go (begins_rule y) refl (own_sound before line (xs ++ y ∷ []) rest (e ∙ line_longer before line xs y rest) h) where
-      go : (b : Bool) → begins_rule y ≡ b → (IsSoundSoFar known project (xs ++ y ∷ []) → IsSoundSoFar known project ((xs ++ y ∷ []) ++ own_lines rest)) → IsSoundSoFar known project (xs ++ own_lines (y ∷ rest))
-      go true t later = subst (IsSoundSoFar known project) (sym (ap (λ l. xs ++ l) (own_rule y rest t) ∙ append-nil xs)) so_far
-      go false t later =
-          let is : IsGoodAt known (own_part xs) y = subst (λ part. IsGoodAt known part y) (part_in_rule before line xs h) (good_at (before ++ line ∷ xs) y rest e t) in
-          let more = later (sound_more known project objects_are xs y is so_far) in
-          subst (IsSoundSoFar known project) (append_assoc xs (y ∷ []) (own_lines rest) ∙ ap (λ l. xs ++ l) (sym (own_other y rest t))) more
+    own_sound : (before : List Line) (line : Line) (rest : List Line) → all ≡ before ++ line ∷ rest → begins_rule line ≡ true → IsSoundSoFar known project (own_lines rest)
+    own_sound before line rest e h = own_all (IsSoundSoFar known project) (sound_more known project objects_are) before line [] rest (e ∙ sym (append_assoc before (line ∷ []) rest)) h (sound_none known project objects_are)
 
     group_in : (group : List Test) → IsSoundGroup known project group → GroupInRange group
     group_in group is = record { some = is.some; tests_in = All-weaker (IsSoundTest project) TestInRange (λ test is. is.range) group is.tests }
@@ -184,7 +189,7 @@ module _ (known : Context) (all : List Line) (faultless : AreFaultless known all
     rule_sound : (before : List Line) (line : Line) (rest : List Line) → all ≡ before ++ line ∷ rest → begins_rule line ≡ true → IsSoundRule project (rule_of known line (own_lines rest))
     unfolding rule_of
     rule_sound before line rest e h =
-        let is = own_sound before line [] rest (e ∙ sym (append_assoc before (line ∷ []) rest)) h (sound_none known project objects_are) in
+        let is = own_sound before line rest e h in
         let good = good_rule before line rest e h in
         record {
           range = record {

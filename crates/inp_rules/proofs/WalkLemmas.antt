@@ -95,7 +95,7 @@ module _ (known : Context) where
     go true e = refl
     go false e = absurd (cc)
 
-  pub good_clause : (part : RulePart) (line : Line) (next : Clause) → IsGoodAt known part line → clause_at line ≡ Some next → IsGoodClause known part is.full next line.tokens
+  pub good_clause : (part : RulePart) (line : Line) (next : Clause) (is : IsGoodAt known part line) → clause_at line ≡ Some next → IsGoodClause known part is.full next line.tokens
   unfolding fault_with
   good_clause part line next is e = by_clause part is.full is.standing is.after line.tokens next (sym (ap is_rule e) ∙ is.no_rule)
       (ap (fault_by_clause known part is.full is.standing is.after line.tokens) (sym e) ∙ (sym (ap (λ b. cond b (fault_by_clause known part is.full is.standing is.after line.tokens (clause_at line)) None) here) ∙ is.good)) where
@@ -103,17 +103,23 @@ module _ (known : Context) where
     here = ap (λ b. b && not (is_long line)) (in_section line next e) ∙ ap not is.short
 
   module _ (part : RulePart) (line : Line) (is : IsGoodAt known part line) where
-    test_there : are_tests (placed part (clause_at line)) ≡ true → (test : Test) × (test_of known line.tokens ≡ Ok test)
+    pub test_there : are_tests (placed part (clause_at line)) ≡ true → (test : Test) × (test_of known line.tokens ≡ Ok test)
     test_there h = go (clause_at line) refl h where
       go : (o : Option Clause) → clause_at line ≡ o → are_tests (placed part o) ≡ true → (test : Test) × (test_of known line.tokens ≡ Ok test)
       go None e t = absurd (cc)
       go (Some next) e t = no_error (test_of known line.tokens) (sym (ap (λ used. item_fault known used line.tokens) (tests_are part next t)) ∙ (good_clause part line next is e).items)
 
-    action_there : (otherwise : Bool) → are_actions otherwise (placed part (clause_at line)) ≡ true → (action : Action) × (action_of known line.tokens ≡ Ok action)
+    pub action_there : (otherwise : Bool) → are_actions otherwise (placed part (clause_at line)) ≡ true → (action : Action) × (action_of known line.tokens ≡ Ok action)
     action_there otherwise h = go (clause_at line) refl h where
       go : (o : Option Clause) → clause_at line ≡ o → are_actions otherwise (placed part o) ≡ true → (action : Action) × (action_of known line.tokens ≡ Ok action)
       go None e t = absurd (cc)
       go (Some next) e t = no_error (action_of known line.tokens) (sym (ap (λ used. item_fault known used line.tokens) (actions_are otherwise part next t)) ∙ (good_clause part line next is e).items)
+
+    pub priority_there : is_end (placed part (clause_at line)) ≡ true → (z : ℤ) × (priority_of known line.tokens ≡ Ok z)
+    priority_there h = go (clause_at line) refl h where
+      go : (o : Option Clause) → clause_at line ≡ o → is_end (placed part o) ≡ true → (z : ℤ) × (priority_of known line.tokens ≡ Ok z)
+      go None e t = absurd (cc)
+      go (Some next) e t = no_error (priority_of known line.tokens) (sym (ap (λ used. item_fault known used line.tokens) (ends_are part next t)) ∙ (good_clause part line next is e).items)
 
   -- ---- what a rule has so far
   pub record IsSoundGroup (project : Project) (group : List Test) : Type 0 where

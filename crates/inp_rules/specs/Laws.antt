@@ -11,6 +11,7 @@ use Rattle.inp_lines.specs.Gather.{gather}
 use Rattle.inp_lines.specs.Readings.{is_long}
 use Rattle.inp_lines.specs.Sources.{FaultsIn}
 use Rattle.inp_forms.specs.Context.{Context}
+use Rattle.inp_rules.specs.Meaning.{MeanRules}
 use Rattle.inp_rules.specs.RuleFaults.{most_pieces, rule_fault}
 use Rattle.inp_rules.specs.RuleLines.{is_controls}
 use Rattle.inp_rules.specs.Rules.{rules_of}
@@ -28,6 +29,15 @@ pub record NamesObjects (known : Context) (project : Project) : Type 0 where
 pub record AreFaultless (known : Context) (lines : List Line) : Type 0 where
   pub short : All (λ line. is_long line ≡ false) lines
   pub good : gather (rule_fault known lines) [] lines ≡ []
+
+-- Where no line is at fault, the rules that are read are those that the lines mean.
+abbrev pub RulesAreMeant : Type 0
+RulesAreMeant = (known : Context) (lines : List Line) → AreFaultless known lines → MeanRules known lines (rules_of known lines)
+
+-- Lines mean one list of rules.
+abbrev pub RulesAreOne : Type 0
+RulesAreOne = (known : Context) (lines : List Line) (a b : List Rule) → MeanRules known lines a → MeanRules known lines b
+    → a ≡ b
 
 -- a rule lies in its ranges, and its numbers name objects
 pub record IsSoundRule (project : Project) (rule : Rule) : Type 0 where

@@ -7,4 +7,5 @@ pub mod RuleLines
 pub mod RuleFaults
 pub mod Rules
 pub mod Grouping
+pub mod Meaning
 pub mod Laws

@@ -2,15 +2,15 @@ use Rattle.std.proofs.Common.{◌≡◌, ◌∙◌, ◌+◌, ◌≤◌, [], ap, 
 use Rattle.net_types.specs.declared.faults.LineFault.{LineFault}
 use Rattle.inp_lines.specs.Faults.{cut}
 use Rattle.inp_lines.specs.Gather.{fault_found}
-use Rattle.inp_lines.specs.Names.{count_after, defined, naming_of, number_in}
+use Rattle.inp_lines.specs.Names.{count_after, defined, number_in}
 use Rattle.inp_lines.proofs.GatherLemmas.{gather_all, gather_cut}
 use Rattle.inp_lines.proofs.NameLemmas.{count_is, defined_front, defined_next, defined_none}
 use Rattle.inp_forms.specs.Context.{context_of}
 use Rattle.inp_rules.specs.declared.order.RulePart.TheVariants.{Outside}
 use Rattle.inp_rules.specs.Order.{part_after}
-use Rattle.inp_rules.specs.RuleFaults.{fault_with, is_full, line_fault_of, pieces_after, pieces_of, rule_fault, rule_name}
-use Rattle.inp_rules.specs.RuleLines.{clause_at, lines_after, part_of}
-use Rattle.inp_rules.proofs.LineLemmas.{after_next, part_next}
+use Rattle.inp_rules.specs.RuleFaults.{line_fault_of, pieces_after, pieces_of, rule_fault, rule_name}
+use Rattle.inp_rules.specs.RuleLines.{clause_at, part_of}
+use Rattle.inp_rules.proofs.LineLemmas.{after_next, fault_same, part_next}
 use Rattle.inp_rules.proofs.PieceLemmas.{count_next, full_by_count}
 use Rattle.inp_rules.proofs.faults.read_faults.Goals as goal
 
@@ -41,12 +41,7 @@ loop-line-preserved c =
     let naming = c.naming_of_line-naming.ensures held front.0 (c.requires.names ∙ (ap (λ l. number_in (defined rule_name l)) (sym c.as_slice-all.ensures) ∙ ap number_in front.1)) so_far.rules_are in
     let next = defined_next rule_name lines i line c.loop-line-test.true c.line-item.is in
     let full = full_by_count (length (pieces_of (take i lines))) c.loop-line.pieces so_far.pieces_are in
-    let found = c.fault_of-found.ensures
-        ∙ (ap (λ part. fault_with known part _ c.naming_of_line-naming.result _ line) so_far.part_is
-        ∙ (ap (λ full. fault_with known (part_of (take i lines)) full c.naming_of_line-naming.result _ line) full
-        ∙ (ap (λ naming. fault_with known (part_of (take i lines)) (is_full (take i lines)) naming _ line) naming
-        ∙ ap (λ after. fault_with known (part_of (take i lines)) (is_full (take i lines)) (naming_of held (rule_name line)) after line)
-            (after_next lines i c.loop-line.next c.loop-line-test.true so_far.next_is)))) in
+    let found = c.fault_of-found.ensures ∙ fault_same known line so_far.part_is full naming (after_next lines i c.loop-line.next c.loop-line-test.true so_far.next_is) in
     record {
       next_is = ap (λ n. n + 1) so_far.next_is;
       part_is = c.part_after_line-part.ensures ∙ (ap (λ part. part_after part (clause_at line)) so_far.part_is
