@@ -3,6 +3,7 @@ use Rattle.std.proofs.Common.{◌≡◌, ◌≤◌, ◌<◌, ◌+◌, ◌∷◌,
 use Rattle.std.proofs.Common.{Option, Some, None, is_some, is_none, option_to_list, Result, Ok, Err, refl, ap, sym, subst, ◌∙◌, arith, nat_lt, nat_le, append_assoc, append-nil}
 use Rattle.std.specs.List.{before_first}
 use Rattle.std.proofs.lemmas.Bool.Decides.{nat_tests}
+use Rattle.std.proofs.lemmas.List.Sums.{sum_by-cons}
 use Rattle.fixed_num.specs.declared.constants.TheConstants.{RECORD_LIMIT}
 use Rattle.net_types.specs.declared.rules.Rule.{Rule}
 use Rattle.net_types.specs.declared.rules.Test.{Test}
@@ -57,24 +58,33 @@ unnamed line b = ap (λ x. cond (x && not (is_long line)) (name_in line.tokens) 
 abbrev total : List (List Test) → ℕ
 total groups = sum_by (λ (group : List Test). length group) groups
 
+total_cons : (x : List Test) (xs : List (List Test)) → total (x ∷ xs) ≡ length x + total xs
+total_cons x xs = sum_by-cons (λ (group : List Test). length group) x xs
+
 total_append : (xs ys : List (List Test)) → total (xs ++ ys) ≡ total xs + total ys
-total_append [] ys = refl
-total_append (x ∷ xs) ys = omega (arith, total_append xs ys)
+total_append [] ys = omega arith
+total_append (x ∷ xs) ys = omega (arith, total_append xs ys, total_cons x xs, total_cons x (xs ++ ys))
 
 total_last : (groups : List (List Test)) (more : List Test) → total (with_last groups more) ≤ total groups + length more
 total_last [] more = omega arith
-total_last (group ∷ []) more = omega (arith, length-append group more)
-total_last (group ∷ next ∷ groups) more = omega (arith, total_last (next ∷ groups) more)
+total_last (group ∷ []) more = omega (arith, length-append group more, total_cons group [], total_cons (group ++ more) [])
+total_last (group ∷ next ∷ groups) more = omega (arith, total_last (next ∷ groups) more, total_cons group (next ∷ groups), total_cons group (with_last (next ∷ groups) more))
 
 total_group : (groups : List (List Test)) (more : List Test) (begins : Bool) → total (cond begins (groups ++ more ∷ []) (with_last groups more)) ≤ total groups + length more
 total_group groups more true = omega (arith, total_append groups (more ∷ []), one more) where
   one : (more : List Test) → total (more ∷ []) ≡ length more
-  one more = omega arith
+  one more = omega (arith, total_cons more [])
 total_group groups more false = total_last groups more
 
 one_at_most : {A : Type 0} (o : Option A) → length (option_to_list o) ≤ 1
 one_at_most None = omega arith
 one_at_most (Some x) = omega arith
+
+rule_summed : (here : Rule) (rest : List Rule) → sum_by size_of (cond true (here ∷ []) [] ++ rest) ≡ size_of here + sum_by size_of rest
+rule_summed here rest = sum_by-cons size_of here rest
+
+none_summed : (here : Rule) (rest : List Rule) → sum_by size_of (cond false (here ∷ []) [] ++ rest) ≡ sum_by size_of rest
+none_summed here rest = refl
 
 -- how many of the three a clause is
 abbrev one_if : Bool → ℕ
@@ -177,8 +187,10 @@ module _ (known : Context) where
       go true t more =
           let here : size_of (rule_of known line (own_lines (lines_after all before))) ≤ length (gather piece_at (before ++ line ∷ []) (own_lines lines)) =
           subst (λ l. size_of (rule_of known line (own_lines l)) ≤ length (gather piece_at (before ++ line ∷ []) (own_lines lines))) (sym after) (rule_few before line lines e t) in
-          omega (arith, here, more, ap (λ l. length (gather piece_at before l)) (own_rule line lines t), length-append (piece_at before line) (gather piece_at (before ++ line ∷ []) lines))
-      go false t more = omega (arith, more, ap (λ l. length (gather piece_at before l)) (own_other line lines t),
+          omega (arith, here, more, rule_summed (rule_of known line (own_lines (lines_after all before))) (gather (rule_at known all) (before ++ line ∷ []) lines),
+              ap (λ l. length (gather piece_at before l)) (own_rule line lines t), length-append (piece_at before line) (gather piece_at (before ++ line ∷ []) lines))
+      go false t more = omega (arith, more, none_summed (rule_of known line (own_lines (lines_after all before))) (gather (rule_at known all) (before ++ line ∷ []) lines),
+          ap (λ l. length (gather piece_at before l)) (own_other line lines t),
           length-append (piece_at before line) (gather piece_at (before ++ line ∷ []) (own_lines lines)), length-append (piece_at before line) (gather piece_at (before ++ line ∷ []) lines))
 
     -- a test or an action has room
@@ -219,11 +231,11 @@ module _ (known : Context) where
 
     not_full : (before : List Line) (line : Line) (rest : List Line) → all ≡ before ++ line ∷ rest → gives_piece (part_of before) line ≡ true → is_full before ≡ false
     unfolding gives_piece
-    not_full before line rest e gives = go (clause_at line) refl (and_second (not (is_long line)) (is_piece (part_of before) line.tokens (clause_at line)) gives) where
+    not_full before line rest e is = go (clause_at line) refl (and_second (not (is_long line)) (is_piece (part_of before) line.tokens (clause_at line)) is) where
       go : (o : Option Clause) → clause_at line ≡ o → is_piece (part_of before) line.tokens o ≡ true → is_full before ≡ false
       go None c piece = absurd (cc)
       go (Some next) c piece =
-          let limited = and_first (is_limited (role_of (part_of before) next)) _ piece in
+          let limited = and_first (is_limited (role_of (part_of before) next)) (not (is_short (role_of (part_of before) next) line.tokens) && is_some (next_of (part_of before) next)) piece in
           room_at before line rest next e c limited
 
     pieces_room : (before lines : List Line) → all ≡ before ++ lines → length (pieces_of before) ≤ most_pieces → length (gather piece_at before lines) + length (pieces_of before) ≤ most_pieces
