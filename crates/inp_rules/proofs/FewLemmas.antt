@@ -187,11 +187,22 @@ module _ (known : Context) where
       go true t more =
           let here : size_of (rule_of known line (own_lines (lines_after all before))) ≤ length (gather piece_at (before ++ line ∷ []) (own_lines lines)) =
           subst (λ l. size_of (rule_of known line (own_lines l)) ≤ length (gather piece_at (before ++ line ∷ []) (own_lines lines))) (sym after) (rule_few before line lines e t) in
-          omega (arith, here, more, rule_summed (rule_of known line (own_lines (lines_after all before))) (gather (rule_at known all) (before ++ line ∷ []) lines),
-              ap (λ l. length (gather piece_at before l)) (own_rule line lines t), length-append (piece_at before line) (gather piece_at (before ++ line ∷ []) lines))
-      go false t more = omega (arith, more, none_summed (rule_of known line (own_lines (lines_after all before))) (gather (rule_at known all) (before ++ line ∷ []) lines),
-          ap (λ l. length (gather piece_at before l)) (own_other line lines t),
-          length-append (piece_at before line) (gather piece_at (before ++ line ∷ []) (own_lines lines)), length-append (piece_at before line) (gather piece_at (before ++ line ∷ []) lines))
+          omega (
+            arith,
+            here,
+            more,
+            rule_summed (rule_of known line (own_lines (lines_after all before))) (gather (rule_at known all) (before ++ line ∷ []) lines),
+            ap (λ l. length (gather piece_at before l)) (own_rule line lines t),
+            length-append (piece_at before line) (gather piece_at (before ++ line ∷ []) lines),
+          )
+      go false t more = omega (
+        arith,
+        more,
+        none_summed (rule_of known line (own_lines (lines_after all before))) (gather (rule_at known all) (before ++ line ∷ []) lines),
+        ap (λ l. length (gather piece_at before l)) (own_other line lines t),
+        length-append (piece_at before line) (gather piece_at (before ++ line ∷ []) (own_lines lines)),
+        length-append (piece_at before line) (gather piece_at (before ++ line ∷ []) lines),
+      )
 
     -- a test or an action has room
     limited_apart : (part : RulePart) (o : Option Clause) (next : Clause) → o ≡ Some next → is_limited (role_of part next) ≡ true → is_rule o ≡ false
@@ -244,9 +255,9 @@ module _ (known : Context) where
         let now = ap length (gather_push piece_at before line) ∙ length-append (pieces_of before) (piece_at before line) in
         let more = pieces_room (before ++ line ∷ []) lines (e ∙ sym (append_assoc before (line ∷ []) lines)) (omega (arith, now, one (gives_piece (part_of before) line) refl)) in
         omega (arith, more, now, length-append (piece_at before line) (gather piece_at (before ++ line ∷ []) lines)) where
-      one : (b : Bool) → gives_piece (part_of before) line ≡ b → length (pieces_of before) + length (cond b (line ∷ []) []) ≤ most_pieces
-      one true t = let full = not_full before line lines e t in let below : length (pieces_of before) < most_pieces = grind (arith, nat_tests) in omega (arith, below)
-      one false t = omega (arith, room)
+          one : (b : Bool) → gives_piece (part_of before) line ≡ b → length (pieces_of before) + length (cond b (line ∷ []) []) ≤ most_pieces
+          one true t = let full = not_full before line lines e t in let below : length (pieces_of before) < most_pieces = grind (arith, nat_tests) in omega (arith, below)
+          one false t = omega (arith, room)
 
     -- ---- rules
     rules_room : (before lines : List Line) → all ≡ before ++ lines → length (defined rule_name before) ≤ RECORD_LIMIT → length (gather (rule_at known all) before lines) + length (defined rule_name before) ≤ RECORD_LIMIT

@@ -90,9 +90,9 @@ module _ (known : Context) where
   part_more : (is_part : Option RulePart → Bool) (P : Line → Type 0) (own : List Line) (line : Line) → (is_part (placed (own_part own) (clause_at line)) ≡ true → P line) → All P (lines_with is_part own) → All P (lines_with is_part (own ++ line ∷ []))
   part_more is_part P own line there all = subst (All P) (sym (gather_push (line_with is_part) own line))
       (All-append P (lines_with is_part own) (line_with is_part own line) all (go (is_part (placed (own_part own) (clause_at line))) refl)) where
-    go : (b : Bool) → is_part (placed (own_part own) (clause_at line)) ≡ b → All P (cond b (line ∷ []) [])
-    go true t = All-cons P line [] (there t) (All-nil P)
-    go false t = All-nil P
+        go : (b : Bool) → is_part (placed (own_part own) (clause_at line)) ≡ b → All P (cond b (line ∷ []) [])
+        go true t = All-cons P line [] (there t) (All-nil P)
+        go false t = All-nil P
 
   read_more : (own : List Line) (line : Line) → IsGoodAt known (own_part own) line → AreRead own → AreRead (own ++ line ∷ [])
   read_more own line is read = record {

@@ -121,7 +121,7 @@ module _ (known : Context) where
       let means = number_means (what.Whole least most) text place z e in
       let is : IsWholeAmount least most text means.0 = means.1 in
       subst (λ x. IsBetween (pos least) x (pos most)) (sym (ap amount_in is.value_is) ∙ means.2)
-          (record { from = omega (arith, ints, is.from); to = omega (arith, ints, is.to) })
+      (record { from = omega (arith, ints, is.from); to = omega (arith, ints, is.to) })
 
   day_range : (text : List ℕ) (z : ℤ) → time_of_day_of text ≡ Some z → IsBetween (pos 0) z (pos 86_399_999)
   day_range text z e =
@@ -261,9 +261,9 @@ module _ (known : Context) where
         let sign = first_step (found_or (relation_of (token_at tokens place)) _ place) _ test e in
         let value = first_step (tested_value known looked (token_at tokens (place + 1)) (place + 1)) _ test sign.2 in
         made sign.0 value.0 (tested_range looked (token_at tokens (place + 1)) (place + 1) value.0 is value.1) _ refl value.2 where
-      made : (how : Relation) (z : ℤ) → ValueInRange looked.subject z → (r : Result Test Fault) → r ≡ Ok (record { subject = looked.subject; relation = how; value = z }) → r ≡ Ok test → IsSoundTest project test
-      made how z range r p q = let same = same_value (record { subject = looked.subject; relation = how; value = z }) test r r p q refl in
-          subst (IsSoundTest project) same (record { range = record { value_in = range }; names = record { subject = is.names } })
+          made : (how : Relation) (z : ℤ) → ValueInRange looked.subject z → (r : Result Test Fault) → r ≡ Ok (record { subject = looked.subject; relation = how; value = z }) → r ≡ Ok test → IsSoundTest project test
+          made how z range r p q = let same = same_value (record { subject = looked.subject; relation = how; value = z }) test r r p q refl in
+              subst (IsSoundTest project) same (record { range = record { value_in = range }; names = record { subject = is.names } })
 
     looked_sound : (tokens : List (List ℕ)) (place : ℕ) (o : Option Looked) (test : Test) → ((looked : Looked) → o ≡ Some looked → IsLook project looked) → looked_test known tokens place o ≡ Ok test → IsSoundTest project test
     looked_sound tokens place None test is e = absurd (cc)
@@ -291,11 +291,11 @@ module _ (known : Context) where
     watched_sound tokens (Some watched.Node) test is e =
         let node = first_step (object_at known objects.Nodes (token_at tokens 2) 2) _ test e in
         looked_sound tokens 3 (node_look_of node.0 (token_at tokens 3)) test
-            (λ looked. node_look node.0 (token_at tokens 3) looked (objects_are.nodes (token_at tokens 2) node.0 (object_in objects.Nodes (token_at tokens 2) 2 node.0 node.1))) node.2
+        (λ looked. node_look node.0 (token_at tokens 3) looked (objects_are.nodes (token_at tokens 2) node.0 (object_in objects.Nodes (token_at tokens 2) 2 node.0 node.1))) node.2
     watched_sound tokens (Some (watched.Link kind)) test is e =
         let link = first_step (object_at known kind (token_at tokens 2) 2) _ test e in
         looked_sound tokens 3 (link_look_of link.0 (token_at tokens 3)) test
-            (λ looked. link_look link.0 (token_at tokens 3) looked (is (watched.Link kind) refl (token_at tokens 2) link.0 (object_in kind (token_at tokens 2) 2 link.0 link.1))) link.2
+        (λ looked. link_look link.0 (token_at tokens 3) looked (is (watched.Link kind) refl (token_at tokens 2) link.0 (object_in kind (token_at tokens 2) 2 link.0 link.1))) link.2
     watched_sound tokens (Some watched.Simulation) test is e =
         looked_sound tokens 2 (clock_look_of (token_at tokens 2)) test (λ looked. clock_look (token_at tokens 2) looked) e
 

@@ -160,10 +160,10 @@ module _ (known : Context) (all : List Line) (faultless : AreFaultless known all
       let here : (is_controls line.section && not (is_long line)) ≡ true = ap (λ b. b && not (is_long line)) (rule_section line h) ∙ ap not good.0 in
       let after : lines_after all before ≡ rest = ap (λ l. lines_after l before) e ∙ after_split before line rest in
       rule_good line.tokens standing (own_lines rest)
-          (ap (λ l. name_fault line.tokens standing (own_lines l)) (sym after)
-          ∙ (ap (fault_by_clause known (part_of before) (is_full before) standing (lines_after all before) line.tokens) (sym (rule_clause (clause_at line) h))
-          ∙ (ap (λ b. cond b (fault_by_clause known (part_of before) (is_full before) standing (lines_after all before) line.tokens (clause_at line)) None) (sym here)
-          ∙ good.1)))
+      (ap (λ l. name_fault line.tokens standing (own_lines l)) (sym after)
+      ∙ (ap (fault_by_clause known (part_of before) (is_full before) standing (lines_after all before) line.tokens) (sym (rule_clause (clause_at line) h))
+      ∙ (ap (λ b. cond b (fault_by_clause known (part_of before) (is_full before) standing (lines_after all before) line.tokens (clause_at line)) None) (sym here)
+      ∙ good.1)))
 
   -- what holds of no lines, and of one line more that isn't at fault, holds of the own lines of a rule
   pub own_all : (P : List Line → Type 0) → ((own : List Line) (line : Line) → IsGoodAt known (own_part own) line → P own → P (own ++ line ∷ []))
@@ -211,14 +211,14 @@ module _ (known : Context) (all : List Line) (faultless : AreFaultless known all
     rules_from before [] e = All-nil (IsSoundRule project)
     rules_from before (line ∷ lines) e =
         All-append (IsSoundRule project) (rule_at known all before line) (gather (rule_at known all) (before ++ line ∷ []) lines) (go (begins_rule line) refl)
-            (rules_from (before ++ line ∷ []) lines (e ∙ sym (append_assoc before (line ∷ []) lines))) where
-      after : lines_after all before ≡ lines
-      after = ap (λ l. lines_after l before) e ∙ after_split before line lines
+        (rules_from (before ++ line ∷ []) lines (e ∙ sym (append_assoc before (line ∷ []) lines))) where
+          after : lines_after all before ≡ lines
+          after = ap (λ l. lines_after l before) e ∙ after_split before line lines
 
-      go : (b : Bool) → begins_rule line ≡ b → All (IsSoundRule project) (cond b (rule_of known line (own_lines (lines_after all before)) ∷ []) [])
-      go true t = All-cons (IsSoundRule project) (rule_of known line (own_lines (lines_after all before))) []
-          (subst (λ l. IsSoundRule project (rule_of known line (own_lines l))) (sym after) (rule_sound before line lines e t)) (All-nil (IsSoundRule project))
-      go false t = All-nil (IsSoundRule project)
+          go : (b : Bool) → begins_rule line ≡ b → All (IsSoundRule project) (cond b (rule_of known line (own_lines (lines_after all before)) ∷ []) [])
+          go true t = All-cons (IsSoundRule project) (rule_of known line (own_lines (lines_after all before))) []
+              (subst (λ l. IsSoundRule project (rule_of known line (own_lines l))) (sym after) (rule_sound before line lines e t)) (All-nil (IsSoundRule project))
+          go false t = All-nil (IsSoundRule project)
 
     pub rules_sound : All (IsSoundRule project) (rules_of known all)
     unfolding rules_of

@@ -99,8 +99,8 @@ module _ (known : Context) where
   unfolding fault_with
   good_clause part line next is e = by_clause part is.full is.standing is.after line.tokens next (sym (ap is_rule e) ∙ is.no_rule)
       (ap (fault_by_clause known part is.full is.standing is.after line.tokens) (sym e) ∙ (sym (ap (λ b. cond b (fault_by_clause known part is.full is.standing is.after line.tokens (clause_at line)) None) here) ∙ is.good)) where
-    here : (is_controls line.section && not (is_long line)) ≡ true
-    here = ap (λ b. b && not (is_long line)) (in_section line next e) ∙ ap not is.short
+        here : (is_controls line.section && not (is_long line)) ≡ true
+        here = ap (λ b. b && not (is_long line)) (in_section line next e) ∙ ap not is.short
 
   module _ (part : RulePart) (line : Line) (is : IsGoodAt known part line) where
     pub test_there : are_tests (placed part (clause_at line)) ≡ true → (test : Test) × (test_of known line.tokens ≡ Ok test)
@@ -140,11 +140,11 @@ module _ (known : Context) where
     last_sound (group ∷ []) test sound all =
         let own = All-head (IsSoundGroup project) group [] all in
         All-cons (IsSoundGroup project) (group ++ test ∷ []) []
-            (record { some = omega (arith, length-append group (test ∷ [])); tests = All-push (IsSoundTest project) group test own.tests sound })
-            (All-nil (IsSoundGroup project))
+        (record { some = omega (arith, length-append group (test ∷ [])); tests = All-push (IsSoundTest project) group test own.tests sound })
+        (All-nil (IsSoundGroup project))
     last_sound (group ∷ next ∷ groups) test sound all =
         All-cons (IsSoundGroup project) group (with_last (next ∷ groups) (test ∷ [])) (All-head (IsSoundGroup project) group (next ∷ groups) all)
-            (last_sound (next ∷ groups) test sound (All-tail (IsSoundGroup project) group (next ∷ groups) all))
+        (last_sound (next ∷ groups) test sound (All-tail (IsSoundGroup project) group (next ∷ groups) all))
 
     last_long : (groups : List (List Test)) (more : List Test) → length (with_last groups more) ≡ length groups
     last_long [] more = refl
@@ -169,7 +169,7 @@ module _ (known : Context) where
         go : (b : Bool) → are_tests (placed part (clause_at line)) ≡ b → All (IsSoundGroup project) (cond b (with_test known line groups) groups)
         go true t = let found = test_there part line is t in
             subst (λ tests. All (IsSoundGroup project) (cond (begins_group line) (groups ++ tests ∷ []) (with_last groups tests))) (sym (test_is found.0 found.1))
-                (with_sound groups found.0 (begins_group line) (test_sound known project objects_are line.tokens found.0 found.1) all)
+            (with_sound groups found.0 (begins_group line) (test_sound known project objects_are line.tokens found.0 found.1) all)
         go false t = all
 
       with_long : (groups : List (List Test)) (more : List Test) (begins : Bool) → length groups ≤ length (cond begins (groups ++ more ∷ []) (with_last groups more))
@@ -193,7 +193,7 @@ module _ (known : Context) where
         go : (b : Bool) → are_actions otherwise (placed part (clause_at line)) ≡ b → All (IsSoundAction project) (actions ++ cond b (option_to_list (good_of (action_of known line.tokens))) [])
         go true t = let found = action_there part line is otherwise t in
             subst (λ r. All (IsSoundAction project) (actions ++ option_to_list (good_of r))) (sym found.1)
-                (All-push (IsSoundAction project) actions found.0 all (action_sound known project objects_are line.tokens found.0 found.1))
+            (All-push (IsSoundAction project) actions found.0 all (action_sound known project objects_are line.tokens found.0 found.1))
         go false t = All-append (IsSoundAction project) actions [] all (All-nil (IsSoundAction project))
 
       actions_begin : (actions : List Action) → are_actions false (placed part (clause_at line)) ≡ true
@@ -229,13 +229,13 @@ module _ (known : Context) where
           some_groups = λ h. subst (λ (gs : List (List Test)). 1 ≤ length gs) (sym groups_now) (named (named_until part (clause_at line) (sym (ap is_named (part_now own line)) ∙ h)));
           some_acts = λ h. subst (λ (l : List Action). 1 ≤ length l) (sym (acts_now false)) (past (tests_until part (clause_at line) (sym (ap is_past_tests (part_now own line)) ∙ h)));
         } where
-      named : (is_named (own_part own) ≡ false) ⊎ ((are_tests (placed (own_part own) (clause_at line)) ≡ true) × (is_or (clause_at line) ≡ false)) → 1 ≤ length (groups_with known (own_part own) line (groups_of known own))
-      named (inl h) = omega (arith, so_far.some_groups h, groups_long (own_part own) line is (groups_of known own))
-      named (inr h) = groups_begin (own_part own) line is (groups_of known own) h.0 h.1
+          named : (is_named (own_part own) ≡ false) ⊎ ((are_tests (placed (own_part own) (clause_at line)) ≡ true) × (is_or (clause_at line) ≡ false)) → 1 ≤ length (groups_with known (own_part own) line (groups_of known own))
+          named (inl h) = omega (arith, so_far.some_groups h, groups_long (own_part own) line is (groups_of known own))
+          named (inr h) = groups_begin (own_part own) line is (groups_of known own) h.0 h.1
 
-      past : (is_past_tests (own_part own) ≡ true) ⊎ (are_actions false (placed (own_part own) (clause_at line)) ≡ true) → 1 ≤ length (gather (action_at known false) [] own ++ action_at known false own line)
-      past (inl h) = omega (arith, so_far.some_acts h, length-append (gather (action_at known false) [] own) (action_at known false own line))
-      past (inr h) = actions_begin (own_part own) line is (actions_of known false own) h
+          past : (is_past_tests (own_part own) ≡ true) ⊎ (are_actions false (placed (own_part own) (clause_at line)) ≡ true) → 1 ≤ length (gather (action_at known false) [] own ++ action_at known false own line)
+          past (inl h) = omega (arith, so_far.some_acts h, length-append (gather (action_at known false) [] own) (action_at known false own line))
+          past (inr h) = actions_begin (own_part own) line is (actions_of known false own) h
 
     pub sound_none : IsSoundSoFar project []
     unfolding actions_of rule_priority own_part

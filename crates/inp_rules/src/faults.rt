@@ -20,7 +20,9 @@ use crate::conditions::read_test;
 use crate::order::{RulePart, next_part};
 use crate::priority::read_priority;
 use crate::roles::{Role, is_limited, is_past_tests, is_short, role_of};
-use crate::rule_lines::{begins_rule, clause_at, is_controls, own_lines, own_part, part_after_line};
+use crate::rule_lines::{
+    begins_rule, clause_at, is_controls, own_lines, own_part, part_after_line,
+};
 use inp_forms::{Known, fault};
 use inp_lines::{
     Fault, Kind, Line, Names, Naming, add_fault, count_line, is_too_long, naming_of_line, too_few,
@@ -82,7 +84,14 @@ pub(crate) fn read_faults<'a>(
     let mut next = 1usize;
     for line in all {
         let naming = naming_of_line(&RuleNames, names, line, rules);
-        let found = fault_of(known, part, pieces >= MOST_PIECES, naming, &all[next..], line);
+        let found = fault_of(
+            known,
+            part,
+            pieces >= MOST_PIECES,
+            naming,
+            &all[next..],
+            line,
+        );
         keep_fault(alloc, &mut faults, line, found)?;
         rules = count_line(&RuleNames, line, naming, rules);
         pieces = pieces_with(part, line, pieces);

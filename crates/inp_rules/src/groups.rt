@@ -113,11 +113,7 @@ fn push_to_last(groups: &mut List<List<Test>>, test: Test) -> Result<(), OutOfMe
 }
 
 /// Adds a test to the group at a place.
-fn push_at(
-    groups: &mut List<List<Test>>,
-    place: usize,
-    test: Test,
-) -> Result<(), OutOfMemory>
+fn push_at(groups: &mut List<List<Test>>, place: usize, test: Test) -> Result<(), OutOfMemory>
     requires { place < length groups.old }
     ensures { OnOk result (groups.new ≡ set groups.old place (get_or groups.old place [] ++ test ∷ [])) }
 {

@@ -31,9 +31,7 @@ mod words;
 pub use actions::read_action;
 pub use clauses::{Clause, clause_in};
 pub use conditions::read_test;
-pub use laws::{
-    rule_faults_are_of_lines, rules_are_few, rules_are_sound, rules_have_one_meaning,
-};
+pub use laws::{rule_faults_are_of_lines, rules_are_few, rules_are_sound, rules_have_one_meaning};
 pub use order::{RulePart, next_part, part_after};
 pub use priority::read_priority;
 pub use rules::read_rules;

@@ -131,10 +131,7 @@ fn add_action<'a>(
 }
 
 /// Appends an action that is read without fault.
-fn push_good(
-    read: Result<Action, Fault>,
-    actions: &mut List<Action>,
-) -> Result<(), OutOfMemory>
+fn push_good(read: Result<Action, Fault>, actions: &mut List<Action>) -> Result<(), OutOfMemory>
     ensures { OnOk result (actions.new ≡ actions.old ++ option_to_list (good_of read)) }
 {
     match read {

@@ -118,22 +118,27 @@ fn tells_clauses_out_of_sequence(rt: HostRuntime) -> Result<(), Fail> {
     let known = some_names(alloc)?;
     let mut rules = List::new(alloc);
     let faults = read_rules(alloc, &known, &lines, &mut rules)?;
-    assert!(rt; are(&faults, &[
-        (2, 217, b"AND"),
-        (4, 217, b"AND"),
-        (6, 203, b"PRIORITY"),
-        (8, 203, b"1"),
-        (9, 211, b"x"),
-        (10, 217, b"AND"),
-        (11, 205, b"FOO"),
-        (12, 203, b"RULE"),
-        (13, 203, b"THEN"),
-        (14, 217, b"RULE"),
-        (15, 207, b"a"),
-        (16, 209, b"J9"),
-        (18, 217, b"RULE"),
-        (22, 211, b"x"),
-    ]));
+    assert!(rt;
+        are(
+            &faults,
+            &[
+                (2, 217, b"AND"),
+                (4, 217, b"AND"),
+                (6, 203, b"PRIORITY"),
+                (8, 203, b"1"),
+                (9, 211, b"x"),
+                (10, 217, b"AND"),
+                (11, 205, b"FOO"),
+                (12, 203, b"RULE"),
+                (13, 203, b"THEN"),
+                (14, 217, b"RULE"),
+                (15, 207, b"a"),
+                (16, 209, b"J9"),
+                (18, 217, b"RULE"),
+                (22, 211, b"x"),
+            ]
+        )
+    );
     assert!(rt; rules.as_slice().len() == 5);
     Ok(())
 }
