@@ -32,12 +32,13 @@ pub record AreFaultless (known : Context) (lines : List Line) : Type 0 where
 
 -- Where no line is at fault, the rules that are read are those that the lines mean.
 abbrev pub RulesAreMeant : Type 0
-RulesAreMeant = (known : Context) (lines : List Line) → AreFaultless known lines → MeanRules known lines (rules_of known lines)
+RulesAreMeant = (known : Context) (lines : List Line) → AreFaultless known lines
+    → MeanRules known lines (rules_of known lines)
 
 -- Lines mean one list of rules.
 abbrev pub RulesAreOne : Type 0
-RulesAreOne = (known : Context) (lines : List Line) (a b : List Rule) → MeanRules known lines a → MeanRules known lines b
-    → a ≡ b
+RulesAreOne = (known : Context) (lines : List Line) (a b : List Rule) → MeanRules known lines a
+    → MeanRules known lines b → a ≡ b
 
 -- a rule lies in its ranges, and its numbers name objects
 pub record IsSoundRule (project : Project) (rule : Rule) : Type 0 where

@@ -38,7 +38,8 @@ abbrev pub good_of : {A : Type 0} → Result A Fault → Option A
 good_of (Ok value) = Some value
 good_of (Err fault) = None
 
--- ---- groups of tests: OR binds stronger than AND, so an IF or AND begins a group, and the ORs up to the next belong to it
+-- ---- groups of tests: OR binds stronger than AND, so an IF or an AND begins a group, and the ORs up to the next
+-- belong to it
 abbrev pub is_or : Option Clause → Bool
 is_or (Some clause.Or) = true
 is_or _ = false

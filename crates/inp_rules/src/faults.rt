@@ -118,8 +118,8 @@ fn keep_fault(
     }
 }
 
-/// The fault of a line, by how far its rule has come, whether there are as many tests and actions as may be, how the name
-/// stands that it defines, and the lines after it.
+/// The fault of a line, by how far its rule has come, whether there are as many tests and actions as may be, how the
+/// name stands that it defines, and the lines after it.
 #[tactic(auto, unfolding(crate::specs::RuleFaults::fault_with))]
 fn fault_of<'a>(
     known: &Known<'a>,

@@ -2,10 +2,10 @@
 //!
 //! [`read_rules`] reads the rules that lines give, by what is known of the whole input, and tells the faults of their
 //! lines. The contract that matters: the rules are those of `specs/Rules.antt`, the faults those of
-//! `specs/RuleFaults.antt`. A rule's lines are those from its RULE line to the next; which of them may follow which says
-//! `specs/Order.antt`, and a clause out of sequence changes nothing. `rules_have_one_meaning` is the law that lines
-//! without a fault are read as the rules that they mean (`specs/Meaning.antt`), and `rules_are_sound` that those are
-//! good for use.
+//! `specs/RuleFaults.antt`. A rule's lines are those from its RULE line to the next; which clause may follow which is
+//! said by `specs/Order.antt`, and a clause out of sequence changes nothing. `rules_have_one_meaning` is the law that
+//! lines without a fault are read as the rules that they mean (`specs/Meaning.antt`), and `rules_are_sound` the one
+//! that those are good for use.
 //!
 //! Below it: which clause a line is, its first word says ([`clause_in`]); [`read_test`] reads the test of a clause,
 //! [`read_action`] its action and [`read_priority`] a rule's priority, each or the clause's one fault

@@ -20,8 +20,10 @@ use inp_lines::{Fault, Line, copy_token, number_names};
 use net_types::{Action, LineFault, List, OutOfMemory, Rule};
 use std::alloc::Global;
 
-/// Reads the control rules that lines give, appends them, and gives the first hundred faults of their lines (User's Manual,
-/// section [CONTROLS]; what is left out of it, which line is at fault and the limits are this project's profile).
+/// Reads the control rules that lines give, appends them, and gives the first hundred faults of their lines.
+///
+/// Source: User's Manual, section [CONTROLS]; what is left out of it, which line is at fault and the limits are this
+/// project's profile.
 pub fn read_rules<'a>(
     alloc: Global,
     known: &Known<'a>,
