@@ -246,7 +246,8 @@ module _ (known : Context) where
       go : (o : Option Clause) → clause_at line ≡ o → is_piece (part_of before) line.tokens o ≡ true → is_full before ≡ false
       go None c piece = absurd (cc)
       go (Some next) c piece =
-          let limited = and_first (is_limited (role_of (part_of before) next)) (not (is_short (role_of (part_of before) next) line.tokens) && is_some (next_of (part_of before) next)) piece in
+          let both = and_first (is_limited (role_of (part_of before) next) && not (is_short (role_of (part_of before) next) line.tokens)) (is_some (next_of (part_of before) next)) piece in
+          let limited = and_first (is_limited (role_of (part_of before) next)) (not (is_short (role_of (part_of before) next) line.tokens)) both in
           room_at before line rest next e c limited
 
     pieces_room : (before lines : List Line) → all ≡ before ++ lines → length (pieces_of before) ≤ most_pieces → length (gather piece_at before lines) + length (pieces_of before) ≤ most_pieces
