@@ -3,3 +3,9 @@ pub mod RuleValues
 pub mod Tests
 pub mod Actions
 pub mod Order
+pub mod RuleLines
+pub mod RuleFaults
+pub mod Rules
+pub mod Grouping
+pub mod Meaning
+pub mod Laws

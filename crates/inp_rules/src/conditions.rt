@@ -32,7 +32,7 @@ pub fn read_test<'a>(known: &Known<'a>, tokens: &'a [Text]) -> Result<Test, Faul
 }
 
 /// How many items a test needs.
-fn least_of_test(word: &[u8]) -> usize
+pub(crate) fn least_of_test(word: &[u8]) -> usize
     ensures { result ≡ least_of word.now }
 {
     if is_word(word, b"SIMULATION") { 5 } else { 6 }
