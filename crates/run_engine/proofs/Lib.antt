@@ -13,4 +13,6 @@ pub mod SumsLemmas
 pub mod KeptLemmas
 pub mod ReportLemmas
 pub mod RunLemmas
+pub mod LateralLemmas
 pub mod RunoffLemmas
+pub mod InputLemmas
