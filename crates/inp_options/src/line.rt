@@ -11,10 +11,12 @@ use crate::keywords::{
 use crate::names::{OptionKind, option_named};
 use crate::setting::Setting;
 use crate::times::{clock_step, day, routing_step, time};
-use crate::values::{area, built, is_zero, off, raw, tolerance, trials, variable_step};
+use crate::values::{
+    area, built, is_zero, keyword, off, raw, tolerance, trials, value, variable_step,
+};
 use inp_lines::{Fault, Line, Reading, SectionName, is_too_long, needed, too_few};
 use inp_values::{clock, whole, yes_no};
-use net_types::{FlowUnits, Text};
+use net_types::{FaultKind, FlowUnits, Text};
 
 /// What a line is read as under these flow units.
 #[tactic(auto, unfolding(crate::specs::OptionLines::reading_of))]
@@ -50,7 +52,11 @@ fn setting_of(units: FlowUnits, tokens: &[Text]) -> Result<Setting, Fault>
     let [name, text, ..] = tokens else {
         return Err(too_few(tokens));
     };
-    let option = needed(option_named(name.as_slice()), 205, 0)?;
+    let option = needed(
+        option_named(name.as_slice()),
+        FaultKind::InvalidKeyword.number(),
+        0,
+    )?;
     setting_by(units, option, text.as_slice())
 }
 
@@ -61,12 +67,10 @@ fn setting_by(units: FlowUnits, option: OptionKind, text: &[u8]) -> Result<Setti
     ensures range { IfOk result IsInRange }
 {
     match option {
-        OptionKind::FlowUnits => Ok(Setting::Units(needed(units_named(text), 205, 1)?)),
-        OptionKind::Infiltration => Ok(Setting::Infiltration(needed(
-            infiltration_named(text),
-            401,
-            1,
-        )?)),
+        OptionKind::FlowUnits => Ok(Setting::Units(keyword(units_named(text))?)),
+        OptionKind::Infiltration => {
+            Ok(Setting::Infiltration(value(infiltration_named(text), FaultKind::NotInProfile)?))
+        }
         OptionKind::FlowRouting => built(is_dynamic_wave(text)),
         OptionKind::StartDate => Ok(Setting::StartDate(day(text)?)),
         OptionKind::StartTime => Ok(Setting::StartTime(time(text)?)),
@@ -76,20 +80,16 @@ fn setting_by(units: FlowUnits, option: OptionKind, text: &[u8]) -> Result<Setti
         OptionKind::WetStep => Ok(Setting::WetStep(clock_step(text, 3_600_000)?)),
         OptionKind::RoutingStep => Ok(Setting::RoutingStep(routing_step(text)?)),
         OptionKind::VariableStep => Ok(Setting::VariableStep(variable_step(text)?)),
-        OptionKind::AllowPonding => Ok(Setting::Ponding(needed(yes_no(text), 205, 1)?)),
-        OptionKind::InertialDamping => Ok(Setting::Inertia(needed(damping_named(text), 205, 1)?)),
-        OptionKind::NormalFlowLimited => Ok(Setting::NormalFlow(needed(
-            limiter_named(text),
-            205,
-            1,
-        )?)),
+        OptionKind::AllowPonding => Ok(Setting::Ponding(keyword(yes_no(text))?)),
+        OptionKind::InertialDamping => Ok(Setting::Inertia(keyword(damping_named(text))?)),
+        OptionKind::NormalFlowLimited => Ok(Setting::NormalFlow(keyword(limiter_named(text))?)),
         OptionKind::MinSurfArea => Ok(Setting::MinArea(area(units, text)?)),
         OptionKind::HeadTolerance => Ok(Setting::Tolerance(tolerance(units, text)?)),
         OptionKind::MaxTrials => Ok(Setting::MaxTrials(trials(text)?)),
-        OptionKind::Threads => Ok(Setting::Threads(needed(whole(text), 211, 1)?)),
+        OptionKind::Threads => Ok(Setting::Threads(value(whole(text), FaultKind::InvalidNumber)?)),
         OptionKind::LinkOffsets => off(offsets_named(text)),
         OptionKind::RuleStep => built(is_zero(clock(text))),
-        OptionKind::SurchargeMethod => Ok(Setting::Extran(needed(method_named(text), 205, 1)?)),
+        OptionKind::SurchargeMethod => Ok(Setting::Extran(keyword(method_named(text))?)),
         OptionKind::Zero => built(is_zero(raw(text))),
         OptionKind::No => off(yes_no(text)),
         OptionKind::Unused => Ok(Setting::Fixed),

@@ -7,9 +7,10 @@ ghost use Rattle.inp_values.specs.CalendarDate.{date_of};
 ghost use Rattle.inp_values.specs.Clock.{clock_of, time_of_day_of};
 ghost use Rattle.inp_values.specs.Duration.{seconds_of};
 
-use crate::values::in_range;
+use crate::values::{fault, in_range};
 use inp_lines::Fault;
 use inp_values::{clock, date, seconds, time_of_day};
+use net_types::FaultKind;
 
 /// The day of a date.
 pub(crate) fn day(text: &[u8]) -> Result<i64, Fault>
@@ -18,10 +19,7 @@ pub(crate) fn day(text: &[u8]) -> Result<i64, Fault>
 {
     match date(text) {
         Some(day) => Ok(day),
-        None => Err(Fault {
-            number: 213,
-            place: 1,
-        }),
+        None => Err(fault(FaultKind::InvalidTime)),
     }
 }
 
@@ -33,10 +31,7 @@ pub(crate) fn time(text: &[u8]) -> Result<i64, Fault>
 {
     match time_of_day(text) {
         Some(ms) => Ok(ms),
-        None => Err(Fault {
-            number: 213,
-            place: 1,
-        }),
+        None => Err(fault(FaultKind::InvalidTime)),
     }
 }
 
@@ -45,7 +40,7 @@ pub(crate) fn clock_step(text: &[u8], most: i64) -> Result<i64, Fault>
     ensures value { result ≡ needed_of (within (pos 1_000) most (clock_of text.now)) 213 1 }
     ensures range { IfOk result (λ ms. IsBetween (pos 1_000) ms most) }
 {
-    in_range(clock(text), 1_000, most, 213)
+    in_range(clock(text), 1_000, most, FaultKind::InvalidTime)
 }
 
 /// The routing step.
@@ -54,7 +49,7 @@ pub(crate) fn routing_step(text: &[u8]) -> Result<i64, Fault>
     ensures range { IfOk result (λ ms. IsBetween (pos 10) ms (pos 3_600_000)) }
     ensures even { IfOk result IsEven }
 {
-    in_range(seconds(text), 10, 3_600_000, 213)
+    in_range(seconds(text), 10, 3_600_000, FaultKind::InvalidTime)
 }
 
 /// The moment of a day and a time of day, in ms from 1970-01-01 00:00:00.

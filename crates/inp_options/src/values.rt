@@ -2,6 +2,7 @@
 ghost use Rattle.std.specs.Prelude.{◌≡◌, ◌^◌, pos, IfOk, IfSome};
 ghost use Rattle.fixed_num.specs.Decimal.{scaled_of};
 ghost use Rattle.fixed_num.specs.Ranges.{IsBetween, IsEven};
+ghost use Rattle.net_types.specs.Faults.{number_of};
 ghost use Rattle.inp_lines.specs.Readings.{needed_of};
 ghost use Rattle.inp_options.specs.Ranges.{IsTrials};
 ghost use Rattle.inp_options.specs.Values.{area_of, built_of, is_zero, off_of, tolerance_of, trials_of, variable_of, within};
@@ -11,24 +12,53 @@ ghost use Rattle.inp_values.specs.Units.{unit_for};
 
 use crate::setting::Setting;
 use fixed_num::scaled_decimal;
-use inp_lines::Fault;
+use inp_lines::{Fault, needed};
 use inp_values::{Quantity, unit_of, whole};
-use net_types::FlowUnits;
+use net_types::{FaultKind, FlowUnits};
 
-/// A value that lies in a range, or a fault.
-pub(crate) fn in_range(value: Option<i64>, least: i64, most: i64, number: u32) -> Result<i64, Fault>
-    ensures value { result ≡ needed_of (within least most value) number 1 }
+/// A fault of a kind at the second token.
+pub(crate) fn fault(kind: FaultKind) -> Fault
+    ensures { result ≡ record { number = number_of kind; place = 1 } }
+{
+    Fault {
+        number: kind.number(),
+        place: 1,
+    }
+}
+
+/// A value that is there, or a fault of a kind at the second token.
+pub(crate) fn value<T: Drop>(found: Option<T>, kind: FaultKind) -> Result<T, Fault>
+    ensures { result ≡ needed_of found (number_of kind) 1 }
+{
+    needed(found, kind.number(), 1)
+}
+
+/// What a keyword stands for, or the fault of a text that is none.
+pub(crate) fn keyword<T: Drop>(word: Option<T>) -> Result<T, Fault>
+    ensures { result ≡ needed_of word 205 1 }
+{
+    value(word, FaultKind::InvalidKeyword)
+}
+
+/// A value that lies in a range, or a fault of a kind.
+pub(crate) fn in_range(
+    value: Option<i64>,
+    least: i64,
+    most: i64,
+    kind: FaultKind,
+) -> Result<i64, Fault>
+    ensures value { result ≡ needed_of (within least most value) (number_of kind) 1 }
     ensures range { IfOk result (λ v. IsBetween least v most) }
     ensures even { IfSome value IsEven → IfOk result IsEven }
 {
     let Some(value) = value else {
-        return Err(Fault { number, place: 1 });
+        return Err(fault(kind));
     };
     if value < least {
-        return Err(Fault { number, place: 1 });
+        return Err(fault(kind));
     }
     if value > most {
-        return Err(Fault { number, place: 1 });
+        return Err(fault(kind));
     }
     Ok(value)
 }
@@ -50,7 +80,12 @@ pub(crate) fn area(units: FlowUnits, text: &[u8]) -> Result<i64, Fault>
     ensures range { IfOk result (λ v. IsBetween (pos 10_000) v (pos (10 ^ 13))) }
 {
     let stored = scaled_decimal(text, &unit_of(units, Quantity::NodeArea));
-    in_range(zero_as(1_167_420, stored), 10_000, 10_000_000_000_000, 211)
+    in_range(
+        zero_as(1_167_420, stored),
+        10_000,
+        10_000_000_000_000,
+        FaultKind::InvalidNumber,
+    )
 }
 
 /// The part of the shortest travel time that a step takes at most, from 0 to 2.
@@ -59,7 +94,7 @@ pub(crate) fn variable_step(text: &[u8]) -> Result<i64, Fault>
     ensures value { result ≡ needed_of (variable_of text.now) 211 1 }
     ensures range { IfOk result (λ v. IsBetween (pos 0) v (pos 2_000_000)) }
 {
-    in_range(raw(text), 0, 2_000_000, 211)
+    in_range(raw(text), 0, 2_000_000, FaultKind::InvalidNumber)
 }
 
 /// The head tolerance: 0 stands for the default.
@@ -69,7 +104,12 @@ pub(crate) fn tolerance(units: FlowUnits, text: &[u8]) -> Result<i64, Fault>
     ensures range { IfOk result (λ v. IsBetween (pos 1) v (pos (10 ^ 9))) }
 {
     let stored = scaled_decimal(text, &unit_of(units, Quantity::Depth));
-    in_range(zero_as(1_524, stored), 1, 1_000_000_000, 211)
+    in_range(
+        zero_as(1_524, stored),
+        1,
+        1_000_000_000,
+        FaultKind::InvalidNumber,
+    )
 }
 
 /// The most trials of a step: 0 stands for the default, and more than 20 are over the limit.
@@ -78,16 +118,10 @@ pub(crate) fn trials(text: &[u8]) -> Result<u32, Fault>
     ensures range { IfOk result IsTrials }
 {
     let Some(most) = whole(text) else {
-        return Err(Fault {
-            number: 211,
-            place: 1,
-        });
+        return Err(fault(FaultKind::InvalidNumber));
     };
     if most > 20 {
-        return Err(Fault {
-            number: 402,
-            place: 1,
-        });
+        return Err(fault(FaultKind::OverLimit));
     }
     if most == 0 {
         return Ok(8);
@@ -102,10 +136,7 @@ pub(crate) fn built(is_built: bool) -> Result<Setting, Fault>
     if is_built {
         return Ok(Setting::Fixed);
     }
-    Err(Fault {
-        number: 401,
-        place: 1,
-    })
+    Err(fault(FaultKind::NotInProfile))
 }
 
 /// A switch that is built for one of its sides alone.
@@ -113,10 +144,7 @@ pub(crate) fn off(is_on: Option<bool>) -> Result<Setting, Fault>
     ensures { result ≡ off_of is_on }
 {
     match is_on {
-        None => Err(Fault {
-            number: 205,
-            place: 1,
-        }),
+        None => Err(fault(FaultKind::InvalidKeyword)),
         Some(is_on) => built(!is_on),
     }
 }

@@ -1,5 +1,5 @@
 -- The faults of a line: at most one.
-use Rattle.std.proofs.Common.{◌≡◌, ◌++◌, [], ◌||◌, true, false, Bool, cond, length, List, Option, Some, None, is_some, Ok, ◌∷◌, ℕ, refl, ap, sym, ◌∙◌, subst, append-nil, arith}
+use Rattle.std.proofs.Common.{◌≡◌, ◌++◌, [], ◌||◌, ◌&&◌, true, false, not, Bool, cond, length, List, Option, Some, None, is_some, Ok, ◌∷◌, ℕ, ℤ, refl, ap, sym, ◌∙◌, subst, append-nil, arith}
 use Rattle.std.proofs.lemmas.List.{take-take}
 use Rattle.net_types.specs.declared.faults.FaultKind.TheVariants.{OverLimit}
 use Rattle.net_types.specs.declared.faults.LineFault.{LineFault}
@@ -10,18 +10,17 @@ use Rattle.inp_lines.specs.declared.line.Line.{Line}
 use Rattle.inp_lines.specs.declared.line.SectionName.{SectionName}
 use Rattle.inp_lines.specs.declared.line.SectionName.TheVariants as section
 use Rattle.inp_lines.specs.declared.names.Naming.{Naming}
+use Rattle.inp_lines.specs.declared.names.Naming.TheVariants.{First}
 use Rattle.inp_lines.specs.declared.reading.Reading.{Reading}
 use Rattle.inp_lines.specs.declared.reading.Reading.TheVariants.{Other, Record, Faulty}
-use Rattle.inp_lines.specs.Faults.{cut}
-use Rattle.inp_lines.specs.Gather.{gather, fault_at, fault_found, faults_in}
+use Rattle.inp_lines.specs.Faults.{cut, too_few_of}
+use Rattle.inp_lines.specs.Gather.{gather, fault_at, fault_found, faults_in, walk_fault}
 use Rattle.inp_lines.specs.Merge.{merged}
-use Rattle.inp_lines.specs.Names.{defined, naming_of, number_in}
+use Rattle.inp_lines.specs.Names.{defined, naming_of}
 use Rattle.inp_lines.specs.Order.{Rise}
 use Rattle.inp_lines.specs.Readings.{is_long, and_then, reading_from}
 use Rattle.inp_lines.specs.Sources.{FaultsIn, OneOn, both_of}
 use Rattle.inp_lines.proofs.MergeLemmas.{merged_gather, merged_cut, merged_sections, faults_in_both}
-use Rattle.constant_inflows.specs.Sections.{is_inflow_section}
-use Rattle.constant_inflows.proofs.InflowLemmas.{inflow_long, inflows_in}
 use Rattle.inp_forms.specs.Context.{Context}
 use Rattle.inp_forms.specs.Forms.{RowForm, Forms, form_reading, has_form, reading_by, row_reading}
 use Rattle.inp_forms.specs.Items.{values_of}
@@ -35,18 +34,29 @@ use Rattle.inp_hydrology.specs.Evaporation.{evaporation_fault, evaporation_forms
 use Rattle.inp_hydrology.specs.Gages.{gage_fault, gage_forms, gage_name}
 use Rattle.inp_hydrology.specs.Soil.{soil_fault, soil_forms}
 use Rattle.inp_hydrology.specs.Subcatchments.{sub_fault, sub_forms, sub_name}
+use Rattle.inp_inflows.specs.Counted.{CountedForm, counted_fault, counted_reading, is_full, is_line_of, is_short}
+use Rattle.inp_inflows.specs.Inflows.{dry_form, inflow_form, is_dry_section, is_inflow_section}
+use Rattle.inp_inflows.proofs.CountedLemmas.{faults_counted}
+use Rattle.inp_lists.specs.Chains.{ChainForm, chain_fault, fault_in, kept}
 use Rattle.inp_network.specs.Links.{link_fault, link_forms, link_name}
-use Rattle.inp_network.specs.Nodes.{node_fault, node_forms, node_name, node_names}
+use Rattle.inp_network.specs.Nodes.{node_fault, node_forms, node_name}
 use Rattle.inp_options.specs.OptionLines.{reading_of, setting_of, at_options, fault_of, is_options, option_fault}
 use Rattle.inp_options.specs.Options.{units_of}
 use Rattle.inp_options.proofs.LineLemmas.{on_option_lines}
 use Rattle.inp_sections.specs.CrossSections.{section_fault, section_forms}
 use Rattle.inp_sections.specs.Losses.{loss_forms, losses_fault}
-use Rattle.inp_reader.specs.Known.{known_in, method_of}
-use Rattle.inp_reader.specs.LineFaults.{fault_of_line, inflow_fault}
+use Rattle.inp_series.specs.CurveLines.{curve_fault, curve_form, is_curve_section}
+use Rattle.inp_series.specs.PatternLines.{is_pattern_section, pattern_fault, pattern_form}
+use Rattle.inp_series.specs.SeriesLines.{is_series_section, series_fault, series_form}
+use Rattle.inp_series.proofs.MeaningLemmas.{curve_faults_in, series_faults_in}
+use Rattle.inp_series.proofs.PatternLemmas.{pattern_faults_in}
+use Rattle.inp_reader.specs.Flows.{flow_fault}
+use Rattle.inp_reader.specs.Known.{known_in, method_of, start_of}
+use Rattle.inp_reader.specs.LineFaults.{fault_of_line}
 use Rattle.inp_reader.specs.Network.{network_fault}
 use Rattle.inp_reader.specs.OtherLines.{treatment_of, treated_fault, is_section_line, other_fault, other_line_fault}
 use Rattle.inp_reader.specs.Surface.{surface_fault}
+use Rattle.inp_reader.specs.Tables.{table_fault}
 
 -- ---- lines that define names in any way
 one_of_reading : {A : Type 0} (line : Line) (reading : Reading A) → OneOn line.number (faults_in line reading)
@@ -199,6 +209,60 @@ module _ (method : InfilKind) (known : Context) where
       let four = merged_sections has_areas (has_form (soil_forms method)) (both_of (both_of (gage_fault known) (sub_fault known)) (areas_fault known)) (soil_fault method known) with_areas_in soil_in (not_soil method) 0 lines rise third fourth three d in
       merged_sections (has_soil method) (has_form evaporation_forms) (both_of (both_of (both_of (gage_fault known) (sub_fault known)) (areas_fault known)) (soil_fault method known)) (evaporation_fault known) with_soil_in evaporation_in (not_evaporation method) 0 lines rise fourth fifth four e
 
+-- ---- series, curves and patterns
+abbrev pub has_pairs : SectionName → Bool
+has_pairs name = is_series_section name || is_curve_section name
+
+abbrev pub is_table : SectionName → Bool
+is_table name = has_pairs name || is_pattern_section name
+
+series_not_curves : (name : SectionName) → is_series_section name ≡ true → is_curve_section name ≡ false
+series_not_curves section.Curves e = cc
+series_not_curves _ e = refl
+
+pairs_not_patterns : (name : SectionName) → has_pairs name ≡ true → is_pattern_section name ≡ false
+pairs_not_patterns section.Patterns e = cc
+pairs_not_patterns _ e = refl
+
+module _ (start : ℤ) where
+  pairs_in : FaultsIn has_pairs (both_of (series_fault start) curve_fault)
+  pairs_in = faults_in_both is_series_section is_curve_section (series_fault start) curve_fault (series_faults_in start) curve_faults_in series_not_curves
+
+  pub tables_in : FaultsIn is_table (table_fault start)
+  unfolding table_fault
+  tables_in = faults_in_both has_pairs is_pattern_section (both_of (series_fault start) curve_fault) pattern_fault pairs_in pattern_faults_in pairs_not_patterns
+
+  -- the faults of tables are those of their sections, merged
+  pub tables_merged : (lines : List Line) → Rise 0 lines → (first second third : List LineFault)
+      → first ≡ cut (gather (series_fault start) [] lines)
+      → second ≡ cut (merged first (cut (gather curve_fault [] lines)))
+      → third ≡ cut (merged second (cut (gather pattern_fault [] lines)))
+      → third ≡ cut (gather (table_fault start) [] lines)
+  unfolding table_fault
+  tables_merged lines rise first second third a b c =
+      let two = merged_sections is_series_section is_curve_section (series_fault start) curve_fault (series_faults_in start) curve_faults_in series_not_curves 0 lines rise first second a b in
+      merged_sections has_pairs is_pattern_section (both_of (series_fault start) curve_fault) pattern_fault pairs_in pattern_faults_in pairs_not_patterns 0 lines rise second third two c
+
+-- ---- flows of nodes
+abbrev pub is_flow : SectionName → Bool
+is_flow name = is_inflow_section name || is_dry_section name
+
+inflows_not_dry : (name : SectionName) → is_inflow_section name ≡ true → is_dry_section name ≡ false
+inflows_not_dry section.Dwf e = cc
+inflows_not_dry _ e = refl
+
+module _ (known : Context) where
+  pub flows_in : FaultsIn is_flow (flow_fault known)
+  unfolding flow_fault
+  flows_in = faults_in_both is_inflow_section is_dry_section (counted_fault known inflow_form) (counted_fault known dry_form) (faults_counted inflow_form known) (faults_counted dry_form known) inflows_not_dry
+
+  pub flows_merged : (lines : List Line) → Rise 0 lines → (first second : List LineFault)
+      → first ≡ cut (gather (counted_fault known inflow_form) [] lines)
+      → second ≡ cut (merged first (cut (gather (counted_fault known dry_form) [] lines)))
+      → second ≡ cut (gather (flow_fault known) [] lines)
+  unfolding flow_fault
+  flows_merged lines rise first second a b = merged_sections is_inflow_section is_dry_section (counted_fault known inflow_form) (counted_fault known dry_form) (faults_counted inflow_form known) (faults_counted dry_form known) inflows_not_dry 0 lines rise first second a b
+
 -- ---- all lines that other readers take
 abbrev pub reads_network : SectionName → Bool
 reads_network name = is_options name || is_network name
@@ -206,8 +270,11 @@ reads_network name = is_options name || is_network name
 abbrev pub reads_surface : InfilKind → SectionName → Bool
 reads_surface method name = reads_network name || is_surface method name
 
+abbrev pub reads_tables : InfilKind → SectionName → Bool
+reads_tables method name = reads_surface method name || is_table name
+
 abbrev pub is_read : InfilKind → SectionName → Bool
-is_read method name = reads_surface method name || is_inflow_section name
+is_read method name = reads_tables method name || is_flow name
 
 options_not_network : (name : SectionName) → is_options name ≡ true → is_network name ≡ false
 options_not_network section.Options e = refl
@@ -221,9 +288,16 @@ not_surface method section.Infiltration e = cc
 not_surface method section.Evaporation e = cc
 not_surface method _ e = refl
 
-not_inflows : (method : InfilKind) (name : SectionName) → reads_surface method name ≡ true → is_inflow_section name ≡ false
-not_inflows method section.Inflows e = cc
-not_inflows method _ e = refl
+not_tables : (method : InfilKind) (name : SectionName) → reads_surface method name ≡ true → is_table name ≡ false
+not_tables method section.TimeSeries e = cc
+not_tables method section.Curves e = cc
+not_tables method section.Patterns e = cc
+not_tables method _ e = refl
+
+not_flows : (method : InfilKind) (name : SectionName) → reads_tables method name ≡ true → is_flow name ≡ false
+not_flows method section.Inflows e = cc
+not_flows method section.Dwf e = cc
+not_flows method _ e = refl
 
 module _ (lines : List Line) where
   abbrev options_here : List Line → Line → List LineFault
@@ -235,8 +309,14 @@ module _ (lines : List Line) where
   abbrev surface_here : List Line → Line → List LineFault
   surface_here = surface_fault (method_of lines) (known_in lines)
 
+  abbrev tables_here : List Line → Line → List LineFault
+  tables_here = table_fault (start_of lines)
+
+  abbrev flows_here : List Line → Line → List LineFault
+  flows_here = flow_fault (known_in lines)
+
   abbrev pub read_fault : List Line → Line → List LineFault
-  read_fault = both_of (both_of (both_of options_here network_here) surface_here) (inflow_fault lines)
+  read_fault = both_of (both_of (both_of (both_of options_here network_here) surface_here) tables_here) flows_here
 
   first_in : FaultsIn reads_network (both_of options_here network_here)
   first_in = faults_in_both is_options is_network options_here network_here (on_option_lines (units_of lines)) (network_in (known_in lines)) options_not_network
@@ -244,11 +324,11 @@ module _ (lines : List Line) where
   second_in : FaultsIn (reads_surface (method_of lines)) (both_of (both_of options_here network_here) surface_here)
   second_in = faults_in_both reads_network (is_surface (method_of lines)) (both_of options_here network_here) surface_here first_in (surface_in (method_of lines) (known_in lines)) (not_surface (method_of lines))
 
-  inflows_here : FaultsIn is_inflow_section (inflow_fault lines)
-  inflows_here = inflows_in (units_of lines) (number_in (node_names lines))
+  third_in : FaultsIn (reads_tables (method_of lines)) (both_of (both_of (both_of options_here network_here) surface_here) tables_here)
+  third_in = faults_in_both (reads_surface (method_of lines)) is_table (both_of (both_of options_here network_here) surface_here) tables_here second_in (tables_in (start_of lines)) (not_tables (method_of lines))
 
   pub read_in : FaultsIn (is_read (method_of lines)) read_fault
-  read_in = faults_in_both (reads_surface (method_of lines)) is_inflow_section (both_of (both_of options_here network_here) surface_here) (inflow_fault lines) second_in inflows_here (not_inflows (method_of lines))
+  read_in = faults_in_both (reads_tables (method_of lines)) is_flow (both_of (both_of (both_of options_here network_here) surface_here) tables_here) flows_here third_in (flows_in (known_in lines)) (not_flows (method_of lines))
 
 -- ---- a line that is too long has no other fault
 same_options : {A : Type 0} (name : SectionName) (x : A) → at_options x name x ≡ x
@@ -294,16 +374,58 @@ surface_long method known before line h =
     (none_of_both (gage_fault known) (sub_fault known) before line (form_long known gage_forms gage_name before line h) (form_long known sub_forms sub_name before line h))
     (form_long known area_forms (owner_of known objects.Subcatchments area_forms) before line h)) (form_long known (soil_forms method) (owner_of known objects.Subcatchments (soil_forms method)) before line h)) (form_long known evaporation_forms no_name before line h)
 
+-- a line that isn't one of a kind has no fault as one
+no_chain : {R S : Type 0} (form : ChainForm R S) (before : List Line) (line : Line) → form.is_of line ≡ false → walk_fault (chain_fault form) before line ≡ []
+unfolding chain_fault
+no_chain form before line e = ap (λ b. fault_found line (cond b (fault_in form (kept form before) line) None)) e
+
+none_long : (here long : Bool) → long ≡ true → (here && not long) ≡ false
+none_long true long e = ap not e
+none_long false long e = refl
+
+series_long : (start : ℤ) (before : List Line) (line : Line) → is_long line ≡ true → series_fault start before line ≡ []
+unfolding series_form
+series_long start before line h = no_chain (series_form start) before line (none_long (is_series_section line.«section») (is_long line) h)
+
+curve_long : (before : List Line) (line : Line) → is_long line ≡ true → curve_fault before line ≡ []
+unfolding curve_form
+curve_long before line h = no_chain curve_form before line (none_long (is_curve_section line.«section») (is_long line) h)
+
+pattern_long : (before : List Line) (line : Line) → is_long line ≡ true → pattern_fault before line ≡ []
+unfolding pattern_form
+pattern_long before line h = no_chain pattern_form before line (none_long (is_pattern_section line.«section») (is_long line) h)
+
+table_long : (start : ℤ) (before : List Line) (line : Line) → is_long line ≡ true → table_fault start before line ≡ []
+unfolding table_fault
+table_long start before line h =
+    none_of_both (both_of (series_fault start) curve_fault) pattern_fault before line
+    (none_of_both (series_fault start) curve_fault before line (series_long start before line h) (curve_long before line h))
+    (pattern_long before line h)
+
+counted_long : {R : Type 0} (known : Context) (form : CountedForm R) (before : List Line) (line : Line) → is_long line ≡ true → counted_fault known form before line ≡ []
+unfolding counted_reading
+counted_long known form before line h =
+    ap (λ b. faults_in line (cond b (cond (is_short form line) (Faulty (too_few_of line.tokens)) (cond (is_full form before) (Faulty (item_fault OverLimit 0)) (row_reading known First form.row line))) Other))
+    (none_long (form.is_of line.«section») (is_long line) h)
+
+flow_long : (known : Context) (before : List Line) (line : Line) → is_long line ≡ true → flow_fault known before line ≡ []
+unfolding flow_fault
+flow_long known before line h = none_of_both (counted_fault known inflow_form) (counted_fault known dry_form) before line
+    (counted_long known inflow_form before line h) (counted_long known dry_form before line h)
+
 read_long : (lines before : List Line) (line : Line) → is_long line ≡ true → read_fault lines before line ≡ []
 read_long lines before line h =
     let options = option_fault (units_of lines) in
     let network = network_fault (known_in lines) in
     let surface = surface_fault (method_of lines) (known_in lines) in
-    none_of_both (both_of (both_of options network) surface) (inflow_fault lines) before line
+    let tables = table_fault (start_of lines) in
+    none_of_both (both_of (both_of (both_of options network) surface) tables) (flow_fault (known_in lines)) before line
+    (none_of_both (both_of (both_of options network) surface) tables before line
     (none_of_both (both_of options network) surface before line
     (none_of_both options network before line (option_long (units_of lines) before line h) (network_long (known_in lines) before line h))
     (surface_long (method_of lines) (known_in lines) before line h))
-    (inflow_long (units_of lines) (number_in (node_names lines)) before line h)
+    (table_long (start_of lines) before line h))
+    (flow_long (known_in lines) before line h)
 
 -- a line that another reader takes has no other fault but for its length
 read_built : (method : InfilKind) (name : SectionName) (named : Bool) → is_read method name ≡ true → treated_fault (treatment_of name) named ≡ None
@@ -322,7 +444,11 @@ read_built method section.Orifices named e = refl
 read_built method section.Weirs named e = refl
 read_built method section.XSections named e = refl
 read_built method section.Losses named e = refl
+read_built method section.TimeSeries named e = refl
+read_built method section.Curves named e = refl
+read_built method section.Patterns named e = refl
 read_built method section.Inflows named e = refl
+read_built method section.Dwf named e = refl
 read_built method _ named e = cc
 
 other_one : (before : List Line) (line : Line) → OneOn line.number (other_line_fault before line)
@@ -356,15 +482,16 @@ unfolding fault_of_line
 line_has_one lines before line = one_fault lines before line
 
 -- the faults so far, and those of lines that no section reads merged into them
-pub all_merged : (lines : List Line) → Rise 0 lines → (first second third fourth fifth : List LineFault)
+pub all_merged : (lines : List Line) → Rise 0 lines → (first second third fourth fifth sixth : List LineFault)
     → first ≡ cut (merged [] (cut (gather (option_fault (units_of lines)) [] lines)))
     → second ≡ cut (merged first (cut (gather (network_fault (known_in lines)) [] lines)))
     → third ≡ cut (merged second (cut (gather (surface_fault (method_of lines) (known_in lines)) [] lines)))
-    → fourth ≡ cut (merged third (cut (gather (inflow_fault lines) [] lines)))
-    → fifth ≡ cut (merged fourth (cut (gather other_line_fault [] lines)))
-    → fifth ≡ cut (gather (fault_of_line lines) [] lines)
+    → fourth ≡ cut (merged third (cut (gather (table_fault (start_of lines)) [] lines)))
+    → fifth ≡ cut (merged fourth (cut (gather (flow_fault (known_in lines)) [] lines)))
+    → sixth ≡ cut (merged fifth (cut (gather other_line_fault [] lines)))
+    → sixth ≡ cut (gather (fault_of_line lines) [] lines)
 unfolding fault_of_line
-all_merged lines rise first second third fourth fifth a b c d e =
+all_merged lines rise first second third fourth fifth sixth a b c d e f =
     let method = method_of lines in
     let options = option_fault (units_of lines) in
     let network = network_fault (known_in lines) in
@@ -372,7 +499,10 @@ all_merged lines rise first second third fourth fifth a b c d e =
     let one = a ∙ take-take 100 100 (gather options [] lines) (omega arith) in
     let two = merged_sections is_options is_network options network (on_option_lines (units_of lines)) (network_in (known_in lines)) options_not_network 0 lines rise first second one b in
     let three = merged_sections reads_network (is_surface method) (both_of options network) surface (first_in lines) (surface_in method (known_in lines)) (not_surface method) 0 lines rise second third two c in
-    let four = merged_sections (reads_surface method) is_inflow_section (both_of (both_of options network) surface) (inflow_fault lines) (second_in lines) (inflows_here lines) (not_inflows method) 0 lines rise third fourth three d in
-    e ∙ (ap (λ l. cut (merged l (cut (gather other_line_fault [] lines)))) four
+    let tables = table_fault (start_of lines) in
+    let flows = flow_fault (known_in lines) in
+    let four = merged_sections (reads_surface method) is_table (both_of (both_of options network) surface) tables (second_in lines) (tables_in (start_of lines)) (not_tables method) 0 lines rise third fourth three d in
+    let five = merged_sections (reads_tables method) is_flow (both_of (both_of (both_of options network) surface) tables) flows (third_in lines) (flows_in (known_in lines)) (not_flows method) 0 lines rise fourth fifth four e in
+    f ∙ (ap (λ l. cut (merged l (cut (gather other_line_fault [] lines)))) five
     ∙ (merged_cut (gather (read_fault lines) [] lines) (gather other_line_fault [] lines)
     ∙ ap cut (merged_gather (read_fault lines) other_line_fault (λ before line. (read_in lines).one before line) other_one (λ before line. one_fault lines before line) 0 [] lines rise)))

@@ -2,13 +2,16 @@
 use Rattle.std.specs.Prelude.{List, []}
 use Rattle.net_types.specs.declared.project.Project.{Project}
 use Rattle.inp_lines.specs.declared.line.Line.{Line}
-use Rattle.inp_lines.specs.Names.{number_in}
-use Rattle.constant_inflows.specs.Inflows.{inflows_of}
 use Rattle.inp_hydrology.specs.Gages.{gages_of}
-use Rattle.inp_network.specs.Nodes.{node_names, nodes_of}
-use Rattle.inp_options.specs.Options.{units_of, options_of}
+use Rattle.inp_inflows.specs.Counted.{counted_of}
+use Rattle.inp_inflows.specs.Inflows.{dry_form, inflow_form}
+use Rattle.inp_network.specs.Nodes.{nodes_of}
+use Rattle.inp_options.specs.Options.{options_of}
 use Rattle.inp_options.specs.Warnings.{warnings_of}
-use Rattle.inp_reader.specs.Known.{known_in, method_of}
+use Rattle.inp_series.specs.CurveLines.{curves_of}
+use Rattle.inp_series.specs.PatternLines.{patterns_of}
+use Rattle.inp_series.specs.SeriesLines.{series_of}
+use Rattle.inp_reader.specs.Known.{known_in, method_of, start_of}
 use Rattle.inp_reader.specs.Network.{full_links}
 use Rattle.inp_reader.specs.Surface.{full_subs}
 use Rattle.inp_reader.specs.Title.{title_of}
@@ -22,10 +25,10 @@ given_project lines = record {
   subs = full_subs (method_of lines) (known_in lines) lines;
   nodes = nodes_of (known_in lines) lines;
   links = full_links (known_in lines) lines;
-  curves = [];
-  series = [];
-  patterns = [];
-  inflows = inflows_of (units_of lines) (number_in (node_names lines)) lines;
-  dry = [];
+  curves = curves_of lines;
+  series = series_of (start_of lines) lines;
+  patterns = patterns_of lines;
+  inflows = counted_of (known_in lines) inflow_form lines;
+  dry = counted_of (known_in lines) dry_form lines;
   rules = [];
 }

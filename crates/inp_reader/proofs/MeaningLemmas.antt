@@ -7,9 +7,7 @@ use Rattle.net_types.specs.declared.options.InfilKind.{InfilKind}
 use Rattle.net_types.specs.declared.project.Project.{Project}
 use Rattle.inp_lines.specs.declared.line.Line.{Line}
 use Rattle.inp_lines.specs.Gather.{gather}
-use Rattle.inp_lines.specs.Names.{number_in}
 use Rattle.inp_lines.specs.Sources.{both_of}
-use Rattle.constant_inflows.proofs.InflowLemmas.{inflows_mean, inflows_one}
 use Rattle.inp_forms.specs.Context.{Context}
 use Rattle.inp_forms.specs.declared.item.Objects.TheVariants as objects
 use Rattle.inp_forms.proofs.FormLemmas.{forms_mean, forms_mean_one}
@@ -20,17 +18,27 @@ use Rattle.inp_hydrology.specs.Gages.{gage_fault, gage_forms, gages_of}
 use Rattle.inp_hydrology.specs.Soil.{soil_fault, soil_forms, soil_of, with_infil}
 use Rattle.inp_hydrology.specs.Subcatchments.{sub_fault, sub_forms, subs_of}
 use Rattle.inp_network.specs.Links.{link_fault, link_forms, links_of}
-use Rattle.inp_network.specs.Nodes.{node_fault, node_forms, node_names, nodes_of}
+use Rattle.inp_inflows.specs.Counted.{counted_fault}
+use Rattle.inp_inflows.specs.Inflows.{dry_form, inflow_form}
+use Rattle.inp_inflows.proofs.CountedLemmas.{counted_mean, counted_mean_one}
+use Rattle.inp_network.specs.Nodes.{node_fault, node_forms, nodes_of}
 use Rattle.inp_options.specs.OptionLines.{option_fault}
 use Rattle.inp_options.specs.Options.{units_of, options_of, options_by, base_by}
 use Rattle.inp_sections.specs.CrossSections.{section_fault, section_forms, sections_of, with_sections}
 use Rattle.inp_sections.specs.Losses.{loss_forms, losses_fault, losses_of, with_losses}
-use Rattle.inp_reader.specs.Known.{known_in, method_of}
-use Rattle.inp_reader.specs.LineFaults.{fault_of_line, inflow_fault, line_faults}
+use Rattle.inp_series.specs.CurveLines.{curve_fault}
+use Rattle.inp_series.specs.PatternLines.{pattern_fault}
+use Rattle.inp_series.specs.SeriesLines.{series_fault}
+use Rattle.inp_series.proofs.MeaningLemmas.{curves_mean, curves_one, series_mean, series_one}
+use Rattle.inp_series.proofs.PatternLemmas.{patterns_mean, patterns_one}
+use Rattle.inp_reader.specs.Flows.{flow_fault}
+use Rattle.inp_reader.specs.Known.{known_in, method_of, start_of}
+use Rattle.inp_reader.specs.LineFaults.{fault_of_line, line_faults}
 use Rattle.inp_reader.specs.Meaning.{Means}
 use Rattle.inp_reader.specs.Network.{MeansLinks, full_links, network_fault}
 use Rattle.inp_reader.specs.OtherLines.{other_line_fault}
 use Rattle.inp_reader.specs.Surface.{MeansSubs, full_subs, surface_fault}
+use Rattle.inp_reader.specs.Tables.{table_fault}
 use Rattle.inp_reader.proofs.Given.{given_project}
 
 -- ---- lines mean at most one project
@@ -62,11 +70,11 @@ means_unique lines p q a b =
     let subs = subs_unique (method_of lines) known lines p.subs q.subs a.subs_are b.subs_are in
     let nodes = forms_mean_one known node_forms lines p.nodes q.nodes a.nodes_are b.nodes_are in
     let links = links_unique known lines p.links q.links a.links_are b.links_are in
-    let inflows = inflows_one (units_of lines) (number_in (node_names lines)) lines p.inflows q.inflows a.inflows_are b.inflows_are in
-    let curves = a.no_curves ∙ sym b.no_curves in
-    let series = a.no_series ∙ sym b.no_series in
-    let patterns = a.no_patterns ∙ sym b.no_patterns in
-    let dry = a.no_dry ∙ sym b.no_dry in
+    let curves = curves_one lines p.curves q.curves a.curves_are b.curves_are in
+    let series = series_one (start_of lines) lines p.series q.series a.series_are b.series_are in
+    let patterns = patterns_one lines p.patterns q.patterns a.patterns_are b.patterns_are in
+    let inflows = counted_mean_one inflow_form known lines p.inflows q.inflows a.inflows_are b.inflows_are in
+    let dry = counted_mean_one dry_form known lines p.dry q.dry a.dry_are b.dry_are in
     let rules = a.no_rules ∙ sym b.no_rules in
     λ i. record { title = title i; warnings = warnings i; options = options i; gages = gages i; subs = subs i; nodes = nodes i; links = links i; curves = curves i; series = series i; patterns = patterns i; inflows = inflows i; dry = dry i; rules = rules i }
 
@@ -101,19 +109,31 @@ pub record NoFaults (lines : List Line) : Type 0 where
   pub subs : gather (sub_fault (known_in lines)) [] lines ≡ []
   pub areas : gather (areas_fault (known_in lines)) [] lines ≡ []
   pub soil : gather (soil_fault (method_of lines) (known_in lines)) [] lines ≡ []
-  pub inflows : gather (inflow_fault lines) [] lines ≡ []
+  pub series : gather (series_fault (start_of lines)) [] lines ≡ []
+  pub curves : gather curve_fault [] lines ≡ []
+  pub patterns : gather pattern_fault [] lines ≡ []
+  pub inflows : gather (counted_fault (known_in lines) inflow_form) [] lines ≡ []
+  pub dry : gather (counted_fault (known_in lines) dry_form) [] lines ≡ []
 
 pub no_faults : (lines : List Line) → line_faults lines ≡ [] → NoFaults lines
-unfolding fault_of_line network_fault surface_fault
+unfolding fault_of_line network_fault surface_fault table_fault flow_fault
 no_faults lines h =
     let known = known_in lines in
     let method = method_of lines in
     let options = option_fault (units_of lines) in
     let network = network_fault known in
     let surface = surface_fault method known in
-    let read = (both_none (both_of (both_of (both_of options network) surface) (inflow_fault lines)) other_line_fault [] lines h).0 in
-    let three = both_none (both_of (both_of options network) surface) (inflow_fault lines) [] lines read in
+    let tables = table_fault (start_of lines) in
+    let series = series_fault (start_of lines) in
+    let inflows = counted_fault known inflow_form in
+    let dry = counted_fault known dry_form in
+    let read = (both_none (both_of (both_of (both_of (both_of options network) surface) tables) (flow_fault known)) other_line_fault [] lines h).0 in
+    let four = both_none (both_of (both_of (both_of options network) surface) tables) (flow_fault known) [] lines read in
+    let three = both_none (both_of (both_of options network) surface) tables [] lines four.0 in
     let two = both_none (both_of options network) surface [] lines three.0 in
+    let in_tables = both_none (both_of series curve_fault) pattern_fault [] lines three.1 in
+    let pairs = both_none series curve_fault [] lines in_tables.0 in
+    let flows = both_none inflows dry [] lines four.1 in
     let one = both_none options network [] lines two.0 in
     let in_network = both_none (both_of (both_of (node_fault known) (link_fault known)) (section_fault known)) (losses_fault known) [] lines one.1 in
     let in_links = both_none (both_of (node_fault known) (link_fault known)) (section_fault known) [] lines in_network.0 in
@@ -131,7 +151,11 @@ no_faults lines h =
       subs = land.1;
       areas = in_areas.1;
       soil = in_soil.1;
-      inflows = three.1;
+      series = pairs.0;
+      curves = pairs.1;
+      patterns = in_tables.1;
+      inflows = flows.0;
+      dry = flows.1;
     }
 
 -- ---- lines without a fault mean the project that they give
@@ -171,11 +195,11 @@ given_means lines h =
       subs_are = subs_mean lines none;
       nodes_are = forms_mean (known_in lines) node_forms lines none.nodes;
       links_are = links_mean lines none;
-      inflows_are = inflows_mean (units_of lines) (number_in (node_names lines)) lines none.inflows;
-      no_curves = refl;
-      no_series = refl;
-      no_patterns = refl;
-      no_dry = refl;
+      curves_are = curves_mean lines none.curves;
+      series_are = series_mean (start_of lines) lines none.series;
+      patterns_are = patterns_mean lines none.patterns;
+      inflows_are = counted_mean inflow_form (known_in lines) lines none.inflows;
+      dry_are = counted_mean dry_form (known_in lines) lines none.dry;
       no_rules = refl;
     }
 

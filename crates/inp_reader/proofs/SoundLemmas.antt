@@ -1,43 +1,41 @@
 -- What holds of every project that is read.
-use Rattle.std.proofs.Common.{◌≡◌, [], codes, ◌∷◌, ◌<◌, ◌≤◌, ◌+◌, ◌^◌, ℕ, ℤ, pos, Bool, true, false, cond, nat_lt, length, List, Option, Some, None, IfSome, refl, ap, sym, ◌∙◌, subst, arith, sum_by}
-use Rattle.std.specs.List.{All, AllZip, filter}
-use Rattle.std.proofs.lemmas.Bool.Decides.{nat_tests}
-use Rattle.std.proofs.lemmas.Int.{ints}
+use Rattle.std.proofs.Common.{◌≡◌, [], codes, ◌∷◌, ◌<◌, ◌≤◌, ◌+◌, ℕ, Bool, true, false, cond, length, List, Option, Some, None, IfSome, refl, ap, sym, ◌∙◌, subst, arith, sum_by, get_or, map}
+use Rattle.std.specs.List.{All}
 use Rattle.std.proofs.lemmas.List.Elements.{All-nil, All-cons, All-head, All-tail}
 use Rattle.fixed_num.specs.declared.constants.TheConstants.{RECORD_LIMIT}
-use Rattle.fixed_num.specs.Ranges.{IsRaw}
+use Rattle.fixed_num.specs.Ranges.{IsMoment}
 use Rattle.net_types.specs.declared.hydrology.Gage.{Gage}
 use Rattle.net_types.specs.declared.hydrology.Sub.{Sub}
+use Rattle.net_types.specs.declared.inflows.DryFlow.{DryFlow}
 use Rattle.net_types.specs.declared.inflows.Inflow.{Inflow}
 use Rattle.net_types.specs.declared.network.Link.{Link}
 use Rattle.net_types.specs.declared.network.LinkKind.{LinkKind}
 use Rattle.net_types.specs.declared.network.LinkKind.TheVariants.{Conduit, Pump, Orifice, Weir}
 use Rattle.net_types.specs.declared.network.Node.{Node}
-use Rattle.net_types.specs.declared.options.FlowUnits.{FlowUnits}
 use Rattle.net_types.specs.declared.options.InfilKind.{InfilKind}
+use Rattle.net_types.specs.declared.options.Options.{Options}
 use Rattle.net_types.specs.declared.project.Project.{Project}
+use Rattle.net_types.specs.declared.tables.Curve.{Curve}
+use Rattle.net_types.specs.declared.tables.CurveKind.{CurveKind}
+use Rattle.net_types.specs.declared.tables.CurveKind.TheVariants.{Storage, Pump1, Pump2, Pump3, Pump4, Tidal}
+use Rattle.net_types.specs.declared.tables.Pattern.{Pattern}
+use Rattle.net_types.specs.declared.tables.Series.{Series}
 use Rattle.net_types.specs.Ranges.{OptionsInRange, GageInRange, SubInRange, NodeInRange, LinkKindInRange, LinkInRange, SectionInRange}
 use Rattle.net_types.specs.Ranges.{IsOfKind, CurveInRange, SeriesInRange, PatternInRange, InflowInRange, DryFlowInRange, RuleInRange}
 use Rattle.net_types.specs.Sound.{GageNames, SubNames, NodeNames, LinkKindNames, LinkNames, InflowNames, DryFlowNames, RuleNames, IsSound}
+use Rattle.net_types.specs.Sound.{IsPumpCurve, NamesCurve, NamesPumpCurve}
 use Rattle.inp_lines.specs.declared.line.Line.{Line}
 use Rattle.inp_lines.specs.declared.line.SectionName.{SectionName}
 use Rattle.inp_lines.specs.declared.line.SectionName.TheVariants as section
 use Rattle.inp_lines.specs.Faults.{token_at}
 use Rattle.inp_lines.specs.Names.{number_in}
 use Rattle.inp_lines.proofs.NameLemmas.{number_within}
-use Rattle.inp_values.specs.declared.quantities.Quantity.TheVariants.{Raw}
-use Rattle.inp_values.specs.Units.{unit_for}
-use Rattle.fixed_num.specs.Decimal.{IsStored}
-use Rattle.fixed_num.proofs.Bounds.{within_both, within_minus, within_number}
-use Rattle.constant_inflows.specs.Inflows.{inflows_of}
-use Rattle.constant_inflows.specs.Meaning.{IsInflow, IsNumberOr}
-use Rattle.constant_inflows.specs.Sections.{is_inflow_line}
-use Rattle.constant_inflows.proofs.InflowLemmas.{few_inflows, inflows_mean, inflows_one}
 use Rattle.inp_forms.specs.declared.item.Item.TheVariants.{Needed}
+use Rattle.inp_forms.specs.declared.item.Objects.{Objects}
 use Rattle.inp_forms.specs.declared.item.Objects.TheVariants as objects
 use Rattle.inp_forms.specs.declared.item.Value.{Value}
 use Rattle.inp_forms.specs.declared.item.What.TheVariants.{Name}
-use Rattle.inp_forms.specs.Context.{is_link_of, object_number, that_is}
+use Rattle.inp_forms.specs.Context.{Context, curve_kind_at, curve_number, is_link_of, object_number, serves, that_is}
 use Rattle.inp_forms.specs.Forms.{RowForm}
 use Rattle.inp_hydrology.specs.declared.areas.OwnAreas.{OwnAreas}
 use Rattle.inp_hydrology.specs.declared.soil.OwnInfil.{OwnInfil}
@@ -47,12 +45,16 @@ use Rattle.inp_hydrology.specs.Soil.{sub_of_infil, with_infil, with_own_infil}
 use Rattle.inp_hydrology.specs.Subcatchments.{sub_form, sub_forms, sub_name, sub_names}
 use Rattle.inp_hydrology.specs.Soundness.{AreSoundAreas, IsSoundGage, IsSoundSoil, IsSoundSub, NamesObjects as NamesLand}
 use Rattle.inp_hydrology.proofs.SoundLemmas.{areas_sound, gages_sound, soil_sound, subs_sound}
+use Rattle.inp_inflows.specs.Counted.{MeanCounted, counted_of}
+use Rattle.inp_inflows.specs.Inflows.{dry_form, inflow_form}
+use Rattle.inp_inflows.specs.Laws.{IsSoundDry, IsSoundInflow, NamesSources}
+use Rattle.inp_inflows.proofs.CountedLemmas.{counted_mean, counted_mean_one, few_counted}
+use Rattle.inp_inflows.proofs.SoundLemmas.{dry_flows_sound, inflows_sound}
 use Rattle.inp_network.specs.Links.{conduit_form, link_forms, link_name, link_names, orifice_form, pump_form, weir_form}
 use Rattle.inp_network.specs.Nodes.{junction_form, node_forms, node_name, node_names, outfall_form, storage_form, fixed_form, tidal_form, series_form, steady_form, functional_form, tabular_form, is_at}
 use Rattle.inp_network.specs.Soundness.{IsSoundLink, IsSoundNode, NamesObjects}
 use Rattle.inp_network.proofs.LinksLemmas.{links_sound}
 use Rattle.inp_network.proofs.NodesLemmas.{nodes_sound}
-use Rattle.inp_options.specs.Options.{units_of}
 use Rattle.inp_owners.proofs.PlacingLemmas.{length-owned}
 use Rattle.inp_sections.specs.declared.cross_sections.OwnSection.{OwnSection}
 use Rattle.inp_sections.specs.declared.losses.OwnLosses.{OwnLosses}
@@ -60,7 +62,12 @@ use Rattle.inp_sections.specs.CrossSections.{link_of_section, with_section, with
 use Rattle.inp_sections.specs.Losses.{kind_with_losses, link_of_losses, with_losses, with_own_losses}
 use Rattle.inp_sections.specs.Soundness.{AreSoundLosses, IsSoundSection, NamesLinks}
 use Rattle.inp_sections.proofs.SoundLemmas.{losses_sound, sections_sound}
-use Rattle.inp_reader.specs.Known.{context_in, known_in, method_of}
+use Rattle.inp_series.specs.CurveLines.{curve_names, curve_states, curves_of}
+use Rattle.inp_series.specs.PatternLines.{pattern_names, patterns_of}
+use Rattle.inp_series.specs.SeriesLines.{series_names, series_of}
+use Rattle.inp_series.proofs.MeaningLemmas.{curve_kinds_are, curves_in_range, curves_mean, curves_one, few_curves, few_entries, few_points, few_series, series_in_range, series_mean, series_numbers, series_one}
+use Rattle.inp_series.proofs.PatternLemmas.{few_patterns, pattern_numbers, patterns_in_range, patterns_mean, patterns_one}
+use Rattle.inp_reader.specs.Known.{context_in, known_in, method_of, start_of}
 use Rattle.inp_reader.specs.LineFaults.{line_faults}
 use Rattle.inp_reader.specs.Meaning.{Means}
 use Rattle.inp_reader.proofs.MeaningLemmas.{NoFaults, no_faults}
@@ -240,40 +247,6 @@ length-full_subs : (soil : List OwnInfil) (areas : List OwnAreas) (bare : List S
 unfolding with_areas with_infil
 length-full_subs soil areas bare = length-owned sub_of_infil with_own_infil 0 soil (with_areas areas bare) ∙ length-owned sub_of_areas with_own_areas 0 areas bare
 
--- ---- inflows
-raw_in : (units : FlowUnits) (text : List ℕ) (value : ℤ) → IsStored (unit_for units Raw) text value → IsRaw value
-unfolding unit_for
-raw_in units text value stored = within_both stored.range (within_minus (10 ^ 15)) (within_number (10 ^ 15))
-
-raw_or : (missing : ℤ) (units : FlowUnits) (tokens : List (List ℕ)) (place : ℕ) (value : ℤ) → IsRaw missing → IsNumberOr missing units Raw tokens place value → IsRaw value
-raw_or missing units tokens place value default item = step (nat_lt place (length tokens)) refl where
-  step : (b : Bool) → nat_lt place (length tokens) ≡ b → IsRaw value
-  step true e = let there : place < length tokens = grind (arith, nat_tests) in raw_in units _ value (item.there there)
-  step false e = let absent : length tokens ≤ place = grind (arith, nat_tests) in subst IsRaw (sym (item.absent absent)) default
-
-none_is : {A : Type 0} (P : A → Type 0) {o : Option A} → o ≡ None → IfSome o P
-none_is P is = subst (λ o. IfSome o P) (sym is) tt
-
-module _ (units : FlowUnits) (nodes : List ℕ → Option ℕ) (tokens : List (List ℕ)) (inflow : Inflow) (is : IsInflow units nodes tokens inflow) where
-  inflow_in : InflowInRange inflow
-  inflow_in = record {
-    scale_in = raw_or (pos 1_000_000) units tokens 5 inflow.scale6 (record { within = omega (arith, ints) }) is.scale_is;
-    base_in = raw_or (pos 0) units tokens 6 inflow.base6 (record { within = omega (arith, ints) }) is.base_is;
-  }
-
-  inflow_names : (project : Project) → ((name : List ℕ) (k : ℕ) → nodes name ≡ Some k → k < length project.nodes) → InflowNames project inflow
-  inflow_names project within = record {
-    node = within _ inflow.node is.node_is;
-    series = none_is (λ (k : ℕ). k < length project.series) is.series_is;
-    pattern = none_is (λ (k : ℕ). k < length project.patterns) is.pattern_is;
-  }
-
-all_zipped : {L R : Type 0} (Is : L → R → Type 0) (P : R → Type 0) → ((l : L) (r : R) → Is l r → P r) → (ls : List L) (rs : List R) → AllZip Is ls rs → All P rs
-all_zipped Is P to [] [] z = All-nil P
-all_zipped Is P to [] (r ∷ rs) z = absurd z
-all_zipped Is P to (l ∷ ls) [] z = absurd z
-all_zipped Is P to (l ∷ ls) (r ∷ rs) z = All-cons P r rs (to l r z.0) (all_zipped Is P to ls rs z.1)
-
 -- ---- a list of nothing
 none_few : {A : Type 0} {list : List A} → list ≡ [] → length list ≤ RECORD_LIMIT
 none_few is = subst (λ l. length l ≤ RECORD_LIMIT) (sym is) (omega arith)
@@ -291,6 +264,42 @@ kept_is test (Some m) n e = step (test m) e where
   step : (b : Bool) → cond b (Some m) None ≡ Some n → Some m ≡ Some n
   step true f = f
   step false f = cc
+
+-- ---- curves of a type
+is_storage : (kind : Option CurveKind) → serves objects.StorageCurves kind ≡ true → kind ≡ Some Storage
+is_storage None e = absurd (cc)
+is_storage (Some Storage) e = refl
+is_storage (Some Pump1) e = absurd (cc)
+is_storage (Some Pump2) e = absurd (cc)
+is_storage (Some Pump3) e = absurd (cc)
+is_storage (Some Pump4) e = absurd (cc)
+is_storage (Some Tidal) e = absurd (cc)
+
+is_tidal : (kind : Option CurveKind) → serves objects.TidalCurves kind ≡ true → kind ≡ Some Tidal
+is_tidal None e = absurd (cc)
+is_tidal (Some Storage) e = absurd (cc)
+is_tidal (Some Pump1) e = absurd (cc)
+is_tidal (Some Pump2) e = absurd (cc)
+is_tidal (Some Pump3) e = absurd (cc)
+is_tidal (Some Pump4) e = absurd (cc)
+is_tidal (Some Tidal) e = refl
+
+is_pump : (kind : Option CurveKind) → serves objects.PumpCurves kind ≡ true → (found : CurveKind) × (kind ≡ Some found) × IsPumpCurve found
+is_pump None e = absurd (cc)
+is_pump (Some Storage) e = absurd (cc)
+is_pump (Some Pump1) e = (Pump1, refl, tt)
+is_pump (Some Pump2) e = (Pump2, refl, tt)
+is_pump (Some Pump3) e = (Pump3, refl, tt)
+is_pump (Some Pump4) e = (Pump4, refl, tt)
+is_pump (Some Tidal) e = absurd (cc)
+
+-- a number that passes a test
+passes : (test : ℕ → Bool) (o : Option ℕ) (n : ℕ) → that_is test o ≡ Some n → test n ≡ true
+passes test None n e = absurd (cc)
+passes test (Some m) n e = step (test m) refl e where
+  step : (b : Bool) → test m ≡ b → cond b (Some m) None ≡ Some n → test n ≡ true
+  step true f g = let same : m ≡ n = cc in sym (ap test same) ∙ f
+  step false f g = absurd (cc)
 
 -- how many there are of each kind
 pub record HasCounts (lines : List Line) (project : Project) : Type 0 where
@@ -312,38 +321,75 @@ counts lines project none means = record {
 within_count : (names : List (List ℕ)) (count : ℕ) → count ≡ length names → (name : List ℕ) (n : ℕ) → number_in names name ≡ Some n → n < count
 within_count names count e name n h = let at : n < length names = number_within names name n h in omega (arith, e, at)
 
-module _ (units : FlowUnits) (lines : List Line) (project : Project) (has : HasCounts lines project) where
+-- the tables that lines without a fault mean are those that are read of them
+pub record HasTables (lines : List Line) (project : Project) : Type 0 where
+  pub curves : project.curves ≡ curves_of lines
+  pub series : project.series ≡ series_of (start_of lines) lines
+  pub patterns : project.patterns ≡ patterns_of lines
+
+tables : (lines : List Line) (project : Project) → NoFaults lines → Means lines project → HasTables lines project
+tables lines project none means = record {
+  curves = curves_one lines project.curves (curves_of lines) means.curves_are (curves_mean lines none.curves);
+  series = series_one (start_of lines) lines project.series (series_of (start_of lines) lines) means.series_are (series_mean (start_of lines) lines none.series);
+  patterns = patterns_one lines project.patterns (patterns_of lines) means.patterns_are (patterns_mean lines none.patterns);
+}
+
+module _ (lines : List Line) (project : Project) (has : HasCounts lines project) (read : HasTables lines project) where
   node_within : (name : List ℕ) (n : ℕ) → number_in (node_names lines) name ≡ Some n → n < length project.nodes
   node_within = within_count (node_names lines) (length project.nodes) has.nodes
 
   link_within : (name : List ℕ) (n : ℕ) → number_in (link_names lines) name ≡ Some n → n < length project.links
   link_within = within_count (link_names lines) (length project.links) has.links
 
-  names_objects : NamesObjects (context_in units lines) project
+  series_within : (name : List ℕ) (n : ℕ) → number_in (series_names (start_of lines) lines) name ≡ Some n → n < length project.series
+  series_within name n h = subst (λ (l : List Series). n < length l) (sym read.series) (series_numbers (start_of lines) lines name n h)
+
+  pattern_within : (name : List ℕ) (n : ℕ) → number_in (pattern_names lines) name ≡ Some n → n < length project.patterns
+  pattern_within name n h = subst (λ (l : List Pattern). n < length l) (sym read.patterns) (pattern_numbers lines name n h)
+
+  curve_named : (n : ℕ) (kind : CurveKind) → get_or (map (λ state. state.kind) (curve_states lines)) n None ≡ Some kind → NamesCurve project.curves n kind
+  curve_named n kind h = subst (λ (l : List Curve). NamesCurve l n kind) (sym read.curves) (curve_kinds_are lines n kind h)
+
+  -- a curve that serves a use
+  serving : (use_of : Objects) (name : List ℕ) (n : ℕ) → curve_number (known_in lines) use_of name ≡ Some n → serves use_of (get_or (map (λ state. state.kind) (curve_states lines)) n None) ≡ true
+  unfolding context_in
+  serving use_of name n h = passes (λ number. serves use_of (curve_kind_at (known_in lines) number)) (number_in (curve_names lines) name) n h
+
+  pump_named : (name : List ℕ) (n : ℕ) → curve_number (known_in lines) objects.PumpCurves name ≡ Some n → NamesPumpCurve project.curves n
+  pump_named name n h =
+      let found = is_pump (get_or (map (λ state. state.kind) (curve_states lines)) n None) (serving objects.PumpCurves name n h) in
+      let curve = curve_named n found.0 found.1 in
+      record { there = curve.there; kind_is = subst IsPumpCurve (sym curve.kind_is) found.2 }
+
+  names_objects : NamesObjects (known_in lines) project
   unfolding object_number context_in
   names_objects = record {
     nodes = node_within;
-    series = λ name n h. let never : ⊥ = cc in absurd never;
-    storage = λ name n h. let never : ⊥ = cc in absurd never;
-    tidal = λ name n h. let never : ⊥ = cc in absurd never;
-    pump = λ name n h. let never : ⊥ = cc in absurd never;
+    series = series_within;
+    storage = λ name n h. curve_named n Storage (is_storage (get_or (map (λ state. state.kind) (curve_states lines)) n None) (serving objects.StorageCurves name n h));
+    tidal = λ name n h. curve_named n Tidal (is_tidal (get_or (map (λ state. state.kind) (curve_states lines)) n None) (serving objects.TidalCurves name n h));
+    pump = pump_named;
   }
 
-  names_links : NamesLinks (context_in units lines) project
+  names_links : NamesLinks (known_in lines) project
   unfolding object_number context_in
   names_links = record {
     links = link_within;
-    conduits = λ name n h. link_within name n (kept_is (is_link_of (context_in units lines) objects.Conduits) (number_in (link_names lines) name) n h);
+    conduits = λ name n h. link_within name n (kept_is (is_link_of (known_in lines) objects.Conduits) (number_in (link_names lines) name) n h);
   }
 
-  names_land : NamesLand (context_in units lines) project
+  names_land : NamesLand (known_in lines) project
   unfolding object_number context_in
   names_land = record {
     nodes = node_within;
-    series = λ name n h. let never : ⊥ = cc in absurd never;
+    series = series_within;
     gages = within_count (gage_names lines) (length project.gages) has.gages;
     subs = within_count (sub_names lines) (length project.subs) has.subs;
   }
+
+  names_sources : NamesSources (known_in lines) project
+  unfolding object_number context_in
+  names_sources = record { nodes = node_within; series = series_within; patterns = pattern_within }
 
 few_names : (names : List (List ℕ)) (count : ℕ) → count ≡ length names → length names ≤ RECORD_LIMIT → count ≤ RECORD_LIMIT
 few_names names count e h = omega (arith, e, h)
@@ -351,13 +397,14 @@ few_names names count e h = omega (arith, e, h)
 pub project_sound : (lines : List Line) (project : Project) → line_faults lines ≡ [] → OptionsInRange project.options → Means lines project → IsSound project
 project_sound lines project clean options means =
     let none = no_faults lines clean in
-    let units = units_of lines in
     let known = known_in lines in
-    let numbers = number_in (node_names lines) in
+    let start = start_of lines in
     let has = counts lines project none means in
-    let objects = names_objects units lines project has in
-    let on_links = names_links units lines project has in
-    let land = names_land units lines project has in
+    let read = tables lines project none means in
+    let objects = names_objects lines project has read in
+    let on_links = names_links lines project has read in
+    let land = names_land lines project has read in
+    let sources = names_sources lines project has read in
     let nodes : All (IsSoundNode project) project.nodes = nodes_sound known project objects lines project.nodes means.nodes_are in
     let gages : All (IsSoundGage project) project.gages = gages_sound known project land lines project.gages means.gages_are in
     let of_links = means.links_are in
@@ -370,7 +417,11 @@ project_sound lines project clean options means =
     let subs : All (IsGoodSub project method) project.subs = subst (λ (l : List Sub). All (IsGoodSub project method) l) (sym of_subs.subs_are)
     (all_subs_good project method of_subs.bare of_subs.areas of_subs.soil (subs_sound known project land lines of_subs.bare of_subs.bare_are)
     (areas_sound known project land lines of_subs.areas of_subs.areas_are) (soil_sound method known project land lines of_subs.soil of_subs.soil_is)) in
-    let inflows = inflows_one units numbers lines project.inflows (inflows_of units numbers lines) means.inflows_are (inflows_mean units numbers lines none.inflows) in
+    let moment : IsMoment start = subst (λ (o : Options). IsMoment o.start) means.options_are options.start_in in
+    let inflows : All (IsSoundInflow project) project.inflows = inflows_sound known project sources lines project.inflows means.inflows_are in
+    let dry : All (IsSoundDry project) project.dry = dry_flows_sound known project sources lines project.dry means.dry_are in
+    let inflows_are = counted_mean_one inflow_form known lines project.inflows (counted_of known inflow_form lines) means.inflows_are (counted_mean inflow_form known lines none.inflows) in
+    let dry_are = counted_mean_one dry_form known lines project.dry (counted_of known dry_form lines) means.dry_are (counted_mean dry_form known lines none.dry) in
     record {
       options = options;
       few = record {
@@ -378,14 +429,14 @@ project_sound lines project clean options means =
         subs = few_names (sub_names lines) (length project.subs) has.subs (defined_few sub_name lines);
         nodes = few_names (node_names lines) (length project.nodes) has.nodes (defined_few node_name lines);
         links = few_names (link_names lines) (length project.links) has.links (defined_few link_name lines);
-        curves = none_few means.no_curves;
-        series = none_few means.no_series;
-        patterns = none_few means.no_patterns;
-        inflows = subst (λ (l : List Inflow). length l ≤ RECORD_LIMIT) (sym inflows) (few_inflows units numbers lines);
-        dry = none_few means.no_dry;
+        curves = subst (λ (l : List Curve). length l ≤ RECORD_LIMIT) (sym read.curves) (few_curves lines);
+        series = subst (λ (l : List Series). length l ≤ RECORD_LIMIT) (sym read.series) (few_series start lines);
+        patterns = subst (λ (l : List Pattern). length l ≤ RECORD_LIMIT) (sym read.patterns) (few_patterns lines);
+        inflows = subst (λ (l : List Inflow). length l ≤ RECORD_LIMIT) (sym inflows_are) (few_counted inflow_form known lines);
+        dry = subst (λ (l : List DryFlow). length l ≤ RECORD_LIMIT) (sym dry_are) (few_counted dry_form known lines);
         rules = none_few means.no_rules;
-        points = none_sum (λ curve. length curve.points) means.no_curves;
-        entries = none_sum (λ series. length series.entries) means.no_series;
+        points = subst (λ (l : List Curve). sum_by (λ curve. length curve.points) l ≤ 1_000_000) (sym read.curves) (few_points lines);
+        entries = subst (λ (l : List Series). sum_by (λ series. length series.entries) l ≤ 1_000_000) (sym read.series) (few_entries start lines);
         tests = none_sum (λ rule. sum_by (λ group. length group) rule.groups + length rule.then_acts + length rule.else_acts) means.no_rules;
       };
       ranges = record {
@@ -393,11 +444,11 @@ project_sound lines project clean options means =
         subs = all_of (IsGoodSub project method) SubInRange (λ sub is. is.range) project.subs subs;
         nodes = all_of (IsSoundNode project) NodeInRange (λ node is. is.range) project.nodes nodes;
         links = all_of (IsGoodLink project) LinkInRange (λ link is. record { kind_in = is.kind_in; section_in = is.section_in }) project.links links;
-        curves = none_all CurveInRange means.no_curves;
-        series = none_all SeriesInRange means.no_series;
-        patterns = none_all PatternInRange means.no_patterns;
-        inflows = all_zipped (λ (line : Line) inflow. IsInflow units numbers line.tokens inflow) InflowInRange (λ line inflow is. inflow_in units numbers line.tokens inflow is) (filter is_inflow_line lines) project.inflows means.inflows_are;
-        dry = none_all DryFlowInRange means.no_dry;
+        curves = subst (λ (l : List Curve). All CurveInRange l) (sym read.curves) (curves_in_range lines none.curves);
+        series = subst (λ (l : List Series). All SeriesInRange l) (sym read.series) (series_in_range start lines moment none.series);
+        patterns = subst (λ (l : List Pattern). All PatternInRange l) (sym read.patterns) (patterns_in_range lines none.patterns);
+        inflows = all_of (IsSoundInflow project) InflowInRange (λ inflow is. is.range) project.inflows inflows;
+        dry = all_of (IsSoundDry project) DryFlowInRange (λ dry is. is.range) project.dry dry;
         rules = none_all RuleInRange means.no_rules;
       };
       names = record {
@@ -405,8 +456,8 @@ project_sound lines project clean options means =
         subs = all_of (IsGoodSub project method) (SubNames project) (λ sub is. record { gage = is.gage; outlet = is.outlet; infil = subst (λ (m : InfilKind). IfSome sub.infil (IsOfKind m)) same_method is.infil }) project.subs subs;
         nodes = all_of (IsSoundNode project) (NodeNames project) (λ node is. is.names) project.nodes nodes;
         links = all_of (IsGoodLink project) (LinkNames project) (λ link is. record { first = is.first; second = is.second; kind = is.kind }) project.links links;
-        inflows = all_zipped (λ (line : Line) inflow. IsInflow units numbers line.tokens inflow) (InflowNames project) (λ line inflow is. inflow_names units numbers line.tokens inflow is project (node_within units lines project has)) (filter is_inflow_line lines) project.inflows means.inflows_are;
-        dry = none_all (DryFlowNames project) means.no_dry;
+        inflows = all_of (IsSoundInflow project) (InflowNames project) (λ inflow is. is.names) project.inflows inflows;
+        dry = all_of (IsSoundDry project) (DryFlowNames project) (λ dry is. is.names) project.dry dry;
         rules = none_all (RuleNames project) means.no_rules;
       };
     }

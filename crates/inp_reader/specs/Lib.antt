@@ -3,6 +3,8 @@ pub mod OtherLines
 pub mod Known
 pub mod Network
 pub mod Surface
+pub mod Tables
+pub mod Flows
 pub mod LineFaults
 pub mod Meaning
 pub mod Reading

@@ -8,6 +8,7 @@
 //! it, is `specs/Soundness`.
 #![tactic(auto)]
 
+mod flows;
 mod known;
 mod laws;
 mod network;

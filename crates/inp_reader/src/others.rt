@@ -52,8 +52,12 @@ fn treated_fault(section: SectionName, names_section: bool) -> Option<Fault>
         | SectionName::Orifices
         | SectionName::Weirs
         | SectionName::XSections
-        | SectionName::Losses
-        | SectionName::Inflows => None,
+        | SectionName::Losses => None,
+        SectionName::Inflows
+        | SectionName::Dwf
+        | SectionName::Curves
+        | SectionName::TimeSeries
+        | SectionName::Patterns => None,
         SectionName::RainGages
         | SectionName::Evaporation
         | SectionName::Subcatchments

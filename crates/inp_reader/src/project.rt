@@ -6,12 +6,12 @@ ghost use Rattle.net_types.specs.Sound.{IsSound};
 ghost use Rattle.inp_reader.specs.LineFaults.{line_faults};
 ghost use Rattle.inp_reader.specs.Meaning.{Means};
 
+use crate::flows::read_flows;
 use crate::known::known_of;
 use crate::network::read_network;
 use crate::others::read_others;
 use crate::surface::read_surface;
 use crate::title::read_title;
-use constant_inflows::read_inflows;
 use inp_lines::{Line, merge_faults};
 use inp_options::read_options;
 use net_types::{LineFault, List, OutOfMemory, Project};
@@ -31,14 +31,14 @@ pub(crate) fn read_lines(
 {
     let (options, warnings) = read_options(alloc, lines, faults)?;
     let title = read_title(alloc, lines)?;
-    let known = known_of(alloc, options.units, lines)?;
+    let (known, tables) = known_of(alloc, options.units, options.start, lines)?;
     let network = read_network(alloc, &known, lines)?;
     merge_faults(alloc, faults, &network.faults)?;
     let surface = read_surface(alloc, options.infil, &known, lines)?;
     merge_faults(alloc, faults, &surface.faults)?;
-    let mut inflows = List::new(alloc);
-    let of_inflows = read_inflows(alloc, options.units, &known.nodes, lines, &mut inflows)?;
-    merge_faults(alloc, faults, &of_inflows)?;
+    merge_faults(alloc, faults, &tables.faults)?;
+    let flows = read_flows(alloc, &known, lines)?;
+    merge_faults(alloc, faults, &flows.faults)?;
     read_others(alloc, lines, faults)?;
     Ok(Project {
         title,
@@ -48,11 +48,11 @@ pub(crate) fn read_lines(
         subs: surface.subs,
         nodes: network.nodes,
         links: network.links,
-        curves: List::new(alloc),
-        series: List::new(alloc),
-        patterns: List::new(alloc),
-        inflows,
-        dry: List::new(alloc),
+        curves: tables.curves,
+        series: tables.series,
+        patterns: tables.patterns,
+        inflows: flows.inflows,
+        dry: flows.dry,
         rules: List::new(alloc),
     })
 }

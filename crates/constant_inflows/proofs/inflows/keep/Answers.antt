@@ -1,8 +1,0 @@
-use Rattle.inp_lines.proofs.GatherLemmas.{no_fault_other, no_fault_record}
-use Rattle.constant_inflows.proofs.inflows.keep.Goals as goal
-
-pub returns-in-Other-clause-faults : goal.returns-in-Other-clause-faults
-returns-in-Other-clause-faults c = no_fault_other c.args.faults.now c.args.line.now c.args.reading c.requires.short c.in-Other.is
-
-pub returns-in_ok-push-in-Record-clause-faults : goal.returns-in_ok-push-in-Record-clause-faults
-returns-in_ok-push-in-Record-clause-faults c = no_fault_record c.args.faults.now c.args.line.now c.args.reading c.in-Record.inflow c.requires.short c.in-Record.is

@@ -1,4 +1,0 @@
-pub mod Items
-pub mod Sections
-pub mod Inflows
-pub mod Meaning
