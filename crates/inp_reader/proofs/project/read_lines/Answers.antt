@@ -1,4 +1,6 @@
-use Rattle.std.proofs.Common.{◌≡◌, subst, sym}
+use Rattle.std.proofs.Common.{◌≡◌, ◌∙◌, ◌++◌, ap, subst, sym}
+use Rattle.inp_forms.specs.Context.{context_of}
+use Rattle.inp_rules.specs.Rules.{rules_of}
 use Rattle.inp_reader.specs.Meaning.{Means}
 use Rattle.inp_reader.proofs.MeaningLemmas.{given_means}
 use Rattle.inp_reader.proofs.ReadLemmas.{faults_are, project_is}
@@ -9,18 +11,19 @@ pub returns-clause-faults : goal.returns-clause-faults
 returns-clause-faults c = faults_are c.args.lines.now c.in_ok-options.options c.in_ok-known.known c.in_ok-options.ensures.options c.in_ok-known.ensures.known
     c.requires.rise c.args.faults.now
     c.read_options.new.faults c.in_ok-network.network.faults c.merge_faults.new.faults c.in_ok-surface.surface.faults c.merge_faults-2.new.faults
-    c.in_ok-known.tables.faults c.merge_faults-3.new.faults c.in_ok-flows.flows.faults c.merge_faults-4.new.faults c.read_others.new.faults
+    c.in_ok-known.tables.faults c.merge_faults-3.new.faults c.in_ok-flows.flows.faults c.merge_faults-4.new.faults c.in_ok-of_rules.of_rules c.merge_faults-5.new.faults c.read_others.new.faults
     c.requires.none c.in_ok-options.ensures.faults c.in_ok-network.ensures.faults c.in_ok-merge_faults.ensures c.in_ok-surface.ensures.faults c.in_ok-merge_faults-2.ensures
-    c.in_ok-known.ensures.faults c.in_ok-merge_faults-3.ensures c.in_ok-flows.ensures.faults c.in_ok-merge_faults-4.ensures c.in_ok-read_others.ensures
+    c.in_ok-known.ensures.faults c.in_ok-merge_faults-3.ensures c.in_ok-flows.ensures.faults c.in_ok-merge_faults-4.ensures c.in_ok-of_rules.ensures.faults c.in_ok-merge_faults-5.ensures c.in_ok-read_others.ensures
 
 pub returns-clause-project : goal.returns-clause-project
 returns-clause-project c none =
+    let rules = c.in_ok-of_rules.ensures.rules ∙ ap (λ l. l ++ rules_of (context_of c.in_ok-known.known) c.args.lines.now) c.new-rules.ensures in
     subst (Means c.args.lines.now) (sym (project_is c.args.lines.now c.in_ok-options.options c.in_ok-known.known c.in_ok-options.ensures.options c.in_ok-known.ensures.known
     c.in_ok-title.title c.in_ok-options.warnings c.in_ok-surface.surface.gages c.in_ok-surface.surface.subs c.in_ok-network.network.nodes c.in_ok-network.network.links
-    c.in_ok-known.tables.curves c.in_ok-known.tables.series c.in_ok-known.tables.patterns c.in_ok-flows.flows.inflows c.in_ok-flows.flows.dry c.new.result
+    c.in_ok-known.tables.curves c.in_ok-known.tables.series c.in_ok-known.tables.patterns c.in_ok-flows.flows.inflows c.in_ok-flows.flows.dry c.read_rules.new.rules
     c.in_ok-title.ensures c.in_ok-options.ensures.warnings
     c.in_ok-surface.ensures.gages c.in_ok-surface.ensures.subs c.in_ok-network.ensures.nodes c.in_ok-network.ensures.links
-    c.in_ok-known.ensures.curves c.in_ok-known.ensures.series c.in_ok-known.ensures.patterns c.in_ok-flows.ensures.inflows c.in_ok-flows.ensures.dry c.new.ensures))
+    c.in_ok-known.ensures.curves c.in_ok-known.ensures.series c.in_ok-known.ensures.patterns c.in_ok-flows.ensures.inflows c.in_ok-flows.ensures.dry rules))
     (given_means c.args.lines.now none)
 
 pub returns-clause-sound : goal.returns-clause-sound
