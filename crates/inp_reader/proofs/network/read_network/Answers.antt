@@ -1,4 +1,3 @@
-use Rattle.std.proofs.Common.{◌∙◌}
 use Rattle.inp_forms.specs.Context.{context_of}
 use Rattle.inp_reader.proofs.FaultLemmas.{network_merged}
 use Rattle.inp_reader.proofs.network.read_network.Goals as goal
