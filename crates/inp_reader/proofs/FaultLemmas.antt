@@ -43,6 +43,9 @@ use Rattle.inp_network.specs.Nodes.{node_fault, node_forms, node_name}
 use Rattle.inp_options.specs.OptionLines.{reading_of, setting_of, at_options, fault_of, is_options, option_fault}
 use Rattle.inp_options.specs.Options.{units_of}
 use Rattle.inp_options.proofs.LineLemmas.{on_option_lines}
+use Rattle.inp_rules.specs.RuleFaults.{fault_by_clause, fault_with, is_full as is_full_of_rules, line_fault_of, rule_fault, rule_name}
+use Rattle.inp_rules.specs.RuleLines.{clause_at, is_controls, lines_after, part_of}
+use Rattle.inp_rules.proofs.SoundLemmas.{faults_of_rules}
 use Rattle.inp_sections.specs.CrossSections.{section_fault, section_forms}
 use Rattle.inp_sections.specs.Losses.{loss_forms, losses_fault}
 use Rattle.inp_series.specs.CurveLines.{curve_fault, curve_form, is_curve_section}
@@ -273,8 +276,11 @@ reads_surface method name = reads_network name || is_surface method name
 abbrev pub reads_tables : InfilKind → SectionName → Bool
 reads_tables method name = reads_surface method name || is_table name
 
+abbrev pub reads_flows : InfilKind → SectionName → Bool
+reads_flows method name = reads_tables method name || is_flow name
+
 abbrev pub is_read : InfilKind → SectionName → Bool
-is_read method name = reads_tables method name || is_flow name
+is_read method name = reads_flows method name || is_controls name
 
 options_not_network : (name : SectionName) → is_options name ≡ true → is_network name ≡ false
 options_not_network section.Options e = refl
@@ -299,6 +305,10 @@ not_flows method section.Inflows e = cc
 not_flows method section.Dwf e = cc
 not_flows method _ e = refl
 
+not_rules : (method : InfilKind) (name : SectionName) → reads_flows method name ≡ true → is_controls name ≡ false
+not_rules method section.Controls e = cc
+not_rules method _ e = refl
+
 module _ (lines : List Line) where
   abbrev options_here : List Line → Line → List LineFault
   options_here = option_fault (units_of lines)
@@ -315,8 +325,11 @@ module _ (lines : List Line) where
   abbrev flows_here : List Line → Line → List LineFault
   flows_here = flow_fault (known_in lines)
 
+  abbrev rules_here : List Line → Line → List LineFault
+  rules_here = rule_fault (known_in lines) lines
+
   abbrev pub read_fault : List Line → Line → List LineFault
-  read_fault = both_of (both_of (both_of (both_of options_here network_here) surface_here) tables_here) flows_here
+  read_fault = both_of (both_of (both_of (both_of (both_of options_here network_here) surface_here) tables_here) flows_here) rules_here
 
   first_in : FaultsIn reads_network (both_of options_here network_here)
   first_in = faults_in_both is_options is_network options_here network_here (on_option_lines (units_of lines)) (network_in (known_in lines)) options_not_network
@@ -327,8 +340,11 @@ module _ (lines : List Line) where
   third_in : FaultsIn (reads_tables (method_of lines)) (both_of (both_of (both_of options_here network_here) surface_here) tables_here)
   third_in = faults_in_both (reads_surface (method_of lines)) is_table (both_of (both_of options_here network_here) surface_here) tables_here second_in (tables_in (start_of lines)) (not_tables (method_of lines))
 
+  fourth_in : FaultsIn (reads_flows (method_of lines)) (both_of (both_of (both_of (both_of options_here network_here) surface_here) tables_here) flows_here)
+  fourth_in = faults_in_both (reads_tables (method_of lines)) is_flow (both_of (both_of (both_of options_here network_here) surface_here) tables_here) flows_here third_in (flows_in (known_in lines)) (not_flows (method_of lines))
+
   pub read_in : FaultsIn (is_read (method_of lines)) read_fault
-  read_in = faults_in_both (reads_tables (method_of lines)) is_flow (both_of (both_of (both_of options_here network_here) surface_here) tables_here) flows_here third_in (flows_in (known_in lines)) (not_flows (method_of lines))
+  read_in = faults_in_both (reads_flows (method_of lines)) is_controls (both_of (both_of (both_of (both_of options_here network_here) surface_here) tables_here) flows_here) rules_here fourth_in (faults_of_rules (known_in lines) lines) (not_rules (method_of lines))
 
 -- ---- a line that is too long has no other fault
 same_options : {A : Type 0} (name : SectionName) (x : A) → at_options x name x ≡ x
@@ -413,19 +429,27 @@ unfolding flow_fault
 flow_long known before line h = none_of_both (counted_fault known inflow_form) (counted_fault known dry_form) before line
     (counted_long known inflow_form before line h) (counted_long known dry_form before line h)
 
+rule_long : (known : Context) (all before : List Line) (line : Line) → is_long line ≡ true → rule_fault known all before line ≡ []
+unfolding line_fault_of fault_with
+rule_long known all before line h = ap (λ b. fault_found line (cond b (fault_by_clause known (part_of before) (is_full_of_rules before) (naming_of (defined rule_name before) (rule_name line)) (lines_after all before) line.tokens (clause_at line)) None))
+    (none_long (is_controls line.«section») (is_long line) h)
+
 read_long : (lines before : List Line) (line : Line) → is_long line ≡ true → read_fault lines before line ≡ []
 read_long lines before line h =
     let options = option_fault (units_of lines) in
     let network = network_fault (known_in lines) in
     let surface = surface_fault (method_of lines) (known_in lines) in
     let tables = table_fault (start_of lines) in
-    none_of_both (both_of (both_of (both_of options network) surface) tables) (flow_fault (known_in lines)) before line
+    let flows = flow_fault (known_in lines) in
+    none_of_both (both_of (both_of (both_of (both_of options network) surface) tables) flows) (rule_fault (known_in lines) lines) before line
+    (none_of_both (both_of (both_of (both_of options network) surface) tables) flows before line
     (none_of_both (both_of (both_of options network) surface) tables before line
     (none_of_both (both_of options network) surface before line
     (none_of_both options network before line (option_long (units_of lines) before line h) (network_long (known_in lines) before line h))
     (surface_long (method_of lines) (known_in lines) before line h))
     (table_long (start_of lines) before line h))
-    (flow_long (known_in lines) before line h)
+    (flow_long (known_in lines) before line h))
+    (rule_long (known_in lines) lines before line h)
 
 -- a line that another reader takes has no other fault but for its length
 read_built : (method : InfilKind) (name : SectionName) (named : Bool) → is_read method name ≡ true → treated_fault (treatment_of name) named ≡ None
@@ -449,6 +473,7 @@ read_built method section.Curves named e = refl
 read_built method section.Patterns named e = refl
 read_built method section.Inflows named e = refl
 read_built method section.Dwf named e = refl
+read_built method section.Controls named e = refl
 read_built method _ named e = cc
 
 other_one : (before : List Line) (line : Line) → OneOn line.number (other_line_fault before line)
@@ -482,16 +507,17 @@ unfolding fault_of_line
 line_has_one lines before line = one_fault lines before line
 
 -- the faults so far, and those of lines that no section reads merged into them
-pub all_merged : (lines : List Line) → Rise 0 lines → (first second third fourth fifth sixth : List LineFault)
+pub all_merged : (lines : List Line) → Rise 0 lines → (first second third fourth fifth sixth seventh : List LineFault)
     → first ≡ cut (merged [] (cut (gather (option_fault (units_of lines)) [] lines)))
     → second ≡ cut (merged first (cut (gather (network_fault (known_in lines)) [] lines)))
     → third ≡ cut (merged second (cut (gather (surface_fault (method_of lines) (known_in lines)) [] lines)))
     → fourth ≡ cut (merged third (cut (gather (table_fault (start_of lines)) [] lines)))
     → fifth ≡ cut (merged fourth (cut (gather (flow_fault (known_in lines)) [] lines)))
-    → sixth ≡ cut (merged fifth (cut (gather other_line_fault [] lines)))
-    → sixth ≡ cut (gather (fault_of_line lines) [] lines)
+    → sixth ≡ cut (merged fifth (cut (gather (rule_fault (known_in lines) lines) [] lines)))
+    → seventh ≡ cut (merged sixth (cut (gather other_line_fault [] lines)))
+    → seventh ≡ cut (gather (fault_of_line lines) [] lines)
 unfolding fault_of_line
-all_merged lines rise first second third fourth fifth sixth a b c d e f =
+all_merged lines rise first second third fourth fifth sixth seventh a b c d e f g =
     let method = method_of lines in
     let options = option_fault (units_of lines) in
     let network = network_fault (known_in lines) in
@@ -503,6 +529,7 @@ all_merged lines rise first second third fourth fifth sixth a b c d e f =
     let flows = flow_fault (known_in lines) in
     let four = merged_sections (reads_surface method) is_table (both_of (both_of options network) surface) tables (second_in lines) (tables_in (start_of lines)) (not_tables method) 0 lines rise third fourth three d in
     let five = merged_sections (reads_tables method) is_flow (both_of (both_of (both_of options network) surface) tables) flows (third_in lines) (flows_in (known_in lines)) (not_flows method) 0 lines rise fourth fifth four e in
-    f ∙ (ap (λ l. cut (merged l (cut (gather other_line_fault [] lines)))) five
+    let six = merged_sections (reads_flows method) is_controls (both_of (both_of (both_of (both_of options network) surface) tables) flows) (rule_fault (known_in lines) lines) (fourth_in lines) (faults_of_rules (known_in lines) lines) (not_rules method) 0 lines rise fifth sixth five f in
+    g ∙ (ap (λ l. cut (merged l (cut (gather other_line_fault [] lines)))) six
     ∙ (merged_cut (gather (read_fault lines) [] lines) (gather other_line_fault [] lines)
     ∙ ap cut (merged_gather (read_fault lines) other_line_fault (λ before line. (read_in lines).one before line) other_one (λ before line. one_fault lines before line) 0 [] lines rise)))

@@ -1,5 +1,5 @@
 -- The project that lines give.
-use Rattle.std.specs.Prelude.{List, []}
+use Rattle.std.specs.Prelude.{List}
 use Rattle.net_types.specs.declared.project.Project.{Project}
 use Rattle.inp_lines.specs.declared.line.Line.{Line}
 use Rattle.inp_hydrology.specs.Gages.{gages_of}
@@ -8,6 +8,7 @@ use Rattle.inp_inflows.specs.Inflows.{dry_form, inflow_form}
 use Rattle.inp_network.specs.Nodes.{nodes_of}
 use Rattle.inp_options.specs.Options.{options_of}
 use Rattle.inp_options.specs.Warnings.{warnings_of}
+use Rattle.inp_rules.specs.Rules.{rules_of}
 use Rattle.inp_series.specs.CurveLines.{curves_of}
 use Rattle.inp_series.specs.PatternLines.{patterns_of}
 use Rattle.inp_series.specs.SeriesLines.{series_of}
@@ -30,5 +31,5 @@ given_project lines = record {
   patterns = patterns_of lines;
   inflows = counted_of (known_in lines) inflow_form lines;
   dry = counted_of (known_in lines) dry_form lines;
-  rules = [];
+  rules = rules_of (known_in lines) lines;
 }

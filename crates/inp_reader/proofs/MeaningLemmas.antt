@@ -1,14 +1,19 @@
 -- What lines without a fault mean.
-use Rattle.std.proofs.Common.{◌≡◌, ◌++◌, ◌∷◌, [], List, refl, ap, sym, ◌∙◌}
+use Rattle.std.proofs.Common.{◌≡◌, ◌++◌, ◌∷◌, [], Bool, true, false, cond, length, List, Some, refl, ap, sym, ◌∙◌}
+use Rattle.std.specs.List.{All}
+use Rattle.std.proofs.lemmas.List.Elements.{All-cons, All-nil}
+use Rattle.net_types.specs.declared.faults.FaultKind.TheVariants.{OverLimit}
 use Rattle.net_types.specs.declared.faults.LineFault.{LineFault}
 use Rattle.net_types.specs.declared.hydrology.Sub.{Sub}
 use Rattle.net_types.specs.declared.network.Link.{Link}
 use Rattle.net_types.specs.declared.options.InfilKind.{InfilKind}
 use Rattle.net_types.specs.declared.project.Project.{Project}
 use Rattle.inp_lines.specs.declared.line.Line.{Line}
-use Rattle.inp_lines.specs.Gather.{gather}
+use Rattle.inp_lines.specs.Gather.{fault_found, gather}
+use Rattle.inp_lines.specs.Readings.{is_long}
 use Rattle.inp_lines.specs.Sources.{both_of}
 use Rattle.inp_forms.specs.Context.{Context}
+use Rattle.inp_forms.specs.Values.{fault_of as item_fault}
 use Rattle.inp_forms.specs.declared.item.Objects.TheVariants as objects
 use Rattle.inp_forms.proofs.FormLemmas.{forms_mean, forms_mean_one}
 use Rattle.inp_owners.proofs.OwnerLemmas.{owned_mean}
@@ -24,6 +29,9 @@ use Rattle.inp_inflows.proofs.CountedLemmas.{counted_mean, counted_mean_one}
 use Rattle.inp_network.specs.Nodes.{node_fault, node_forms, nodes_of}
 use Rattle.inp_options.specs.OptionLines.{option_fault}
 use Rattle.inp_options.specs.Options.{units_of, options_of, options_by, base_by}
+use Rattle.inp_rules.specs.Laws.{AreFaultless}
+use Rattle.inp_rules.specs.RuleFaults.{rule_fault}
+use Rattle.inp_rules.proofs.MeaningLemmas.{rules_meant, rules_one}
 use Rattle.inp_sections.specs.CrossSections.{section_fault, section_forms, sections_of, with_sections}
 use Rattle.inp_sections.specs.Losses.{loss_forms, losses_fault, losses_of, with_losses}
 use Rattle.inp_series.specs.CurveLines.{curve_fault}
@@ -36,7 +44,7 @@ use Rattle.inp_reader.specs.Known.{known_in, method_of, start_of}
 use Rattle.inp_reader.specs.LineFaults.{fault_of_line, line_faults}
 use Rattle.inp_reader.specs.Meaning.{Means}
 use Rattle.inp_reader.specs.Network.{MeansLinks, full_links, network_fault}
-use Rattle.inp_reader.specs.OtherLines.{other_line_fault}
+use Rattle.inp_reader.specs.OtherLines.{is_section_line, other_fault, other_line_fault, treated_fault, treatment_of}
 use Rattle.inp_reader.specs.Surface.{MeansSubs, full_subs, surface_fault}
 use Rattle.inp_reader.specs.Tables.{table_fault}
 use Rattle.inp_reader.proofs.Given.{given_project}
@@ -75,7 +83,7 @@ means_unique lines p q a b =
     let patterns = patterns_one lines p.patterns q.patterns a.patterns_are b.patterns_are in
     let inflows = counted_mean_one inflow_form known lines p.inflows q.inflows a.inflows_are b.inflows_are in
     let dry = counted_mean_one dry_form known lines p.dry q.dry a.dry_are b.dry_are in
-    let rules = a.no_rules ∙ sym b.no_rules in
+    let rules = rules_one known lines p.rules q.rules a.rules_are b.rules_are in
     λ i. record { title = title i; warnings = warnings i; options = options i; gages = gages i; subs = subs i; nodes = nodes i; links = links i; curves = curves i; series = series i; patterns = patterns i; inflows = inflows i; dry = dry i; rules = rules i }
 
 -- ---- where no line is at fault, none is as a record of any kind
@@ -100,6 +108,19 @@ both_none f g before (line ∷ lines) h =
       nil_both (g before line) (gather g more lines) (nil_right (f before line) (g before line) here) rest.1,
     )
 
+-- a line without a fault isn't too long
+short_line : (line : Line) → fault_found line (other_fault line) ≡ [] → is_long line ≡ false
+short_line line = go (is_long line) where
+  go : (b : Bool) → fault_found line (cond b (Some (item_fault OverLimit (length line.tokens))) (treated_fault (treatment_of line.«section») (is_section_line line))) ≡ [] → b ≡ false
+  go true e = absurd (cc)
+  go false e = refl
+
+none_long : (before lines : List Line) → gather other_line_fault before lines ≡ [] → All (λ line. is_long line ≡ false) lines
+none_long before [] h = All-nil (λ line. is_long line ≡ false)
+none_long before (line ∷ lines) h = All-cons (λ line. is_long line ≡ false) line lines
+    (short_line line (nil_left (other_line_fault before line) (gather other_line_fault (before ++ line ∷ []) lines) h))
+    (none_long (before ++ line ∷ []) lines (nil_right (other_line_fault before line) (gather other_line_fault (before ++ line ∷ []) lines) h))
+
 pub record NoFaults (lines : List Line) : Type 0 where
   pub nodes : gather (node_fault (known_in lines)) [] lines ≡ []
   pub links : gather (link_fault (known_in lines)) [] lines ≡ []
@@ -114,6 +135,7 @@ pub record NoFaults (lines : List Line) : Type 0 where
   pub patterns : gather pattern_fault [] lines ≡ []
   pub inflows : gather (counted_fault (known_in lines) inflow_form) [] lines ≡ []
   pub dry : gather (counted_fault (known_in lines) dry_form) [] lines ≡ []
+  pub rules : AreFaultless (known_in lines) lines
 
 pub no_faults : (lines : List Line) → line_faults lines ≡ [] → NoFaults lines
 unfolding fault_of_line network_fault surface_fault table_fault flow_fault
@@ -127,8 +149,9 @@ no_faults lines h =
     let series = series_fault (start_of lines) in
     let inflows = counted_fault known inflow_form in
     let dry = counted_fault known dry_form in
-    let read = (both_none (both_of (both_of (both_of (both_of options network) surface) tables) (flow_fault known)) other_line_fault [] lines h).0 in
-    let four = both_none (both_of (both_of (both_of options network) surface) tables) (flow_fault known) [] lines read in
+    let read = both_none (both_of (both_of (both_of (both_of (both_of options network) surface) tables) (flow_fault known)) (rule_fault known lines)) other_line_fault [] lines h in
+    let five = both_none (both_of (both_of (both_of (both_of options network) surface) tables) (flow_fault known)) (rule_fault known lines) [] lines read.0 in
+    let four = both_none (both_of (both_of (both_of options network) surface) tables) (flow_fault known) [] lines five.0 in
     let three = both_none (both_of (both_of options network) surface) tables [] lines four.0 in
     let two = both_none (both_of options network) surface [] lines three.0 in
     let in_tables = both_none (both_of series curve_fault) pattern_fault [] lines three.1 in
@@ -156,6 +179,7 @@ no_faults lines h =
       patterns = in_tables.1;
       inflows = flows.0;
       dry = flows.1;
+      rules = record { short = none_long [] lines read.1; good = five.1 };
     }
 
 -- ---- lines without a fault mean the project that they give
@@ -200,7 +224,7 @@ given_means lines h =
       patterns_are = patterns_mean lines none.patterns;
       inflows_are = counted_mean inflow_form (known_in lines) lines none.inflows;
       dry_are = counted_mean dry_form (known_in lines) lines none.dry;
-      no_rules = refl;
+      rules_are = rules_meant (known_in lines) lines none.rules;
     }
 
 pub means_some : (lines : List Line) → line_faults lines ≡ [] → (project : Project) × Means lines project

@@ -26,6 +26,8 @@ use Rattle.inp_network.specs.Nodes.{nodes_of}
 use Rattle.inp_options.specs.OptionLines.{option_fault}
 use Rattle.inp_options.specs.Options.{options_of, units_of}
 use Rattle.inp_options.specs.Warnings.{warnings_of}
+use Rattle.inp_rules.specs.RuleFaults.{rule_fault}
+use Rattle.inp_rules.specs.Rules.{rules_of}
 use Rattle.inp_series.specs.CurveLines.{curves_of}
 use Rattle.inp_series.specs.PatternLines.{patterns_of}
 use Rattle.inp_series.specs.SeriesLines.{series_of}
@@ -54,7 +56,7 @@ module _ (lines : List Line) (options : Options) (known : Known) (options_are : 
   context_is : context_of known ≡ known_in lines
   context_is = known_is ∙ (ap (λ u. context_in u options.start lines) units_are ∙ ap (λ s. context_in (units_of lines) s lines) start_is)
 
-  pub faults_are : Rise 0 lines → (old first network second surface third tables fourth flows fifth sixth : List LineFault)
+  pub faults_are : Rise 0 lines → (old first network second surface third tables fourth flows fifth rules sixth seventh : List LineFault)
       → old ≡ []
       → first ≡ cut (merged old (cut (gather (option_fault (units_of lines)) [] lines)))
       → network ≡ cut (gather (network_fault (context_of known)) [] lines)
@@ -65,17 +67,20 @@ module _ (lines : List Line) (options : Options) (known : Known) (options_are : 
       → fourth ≡ cut (merged third tables)
       → flows ≡ cut (gather (flow_fault (context_of known)) [] lines)
       → fifth ≡ cut (merged fourth flows)
-      → sixth ≡ cut (merged fifth (cut (gather other_line_fault [] lines)))
-      → sixth ≡ cut (line_faults lines)
-  faults_are rise old first network second surface third tables fourth flows fifth sixth none a n b s c t d w e f =
-      all_merged lines rise first second third fourth fifth sixth
+      → rules ≡ cut (gather (rule_fault (context_of known) lines) [] lines)
+      → sixth ≡ cut (merged fifth rules)
+      → seventh ≡ cut (merged sixth (cut (gather other_line_fault [] lines)))
+      → seventh ≡ cut (line_faults lines)
+  faults_are rise old first network second surface third tables fourth flows fifth rules sixth seventh none a n b s c t d w e r f g =
+      all_merged lines rise first second third fourth fifth sixth seventh
       (a ∙ ap (λ l. cut (merged l (cut (gather (option_fault (units_of lines)) [] lines)))) none)
       (b ∙ ap (λ l. cut (merged first l)) (n ∙ ap (λ k. cut (gather (network_fault k) [] lines)) context_is))
       (c ∙ ap (λ l. cut (merged second l)) (s ∙ (ap (λ m. cut (gather (surface_fault m (context_of known)) [] lines)) method_is
       ∙ ap (λ k. cut (gather (surface_fault (method_of lines) k) [] lines)) context_is)))
       (d ∙ ap (λ l. cut (merged third l)) (t ∙ ap (λ s. cut (gather (table_fault s) [] lines)) start_is))
       (e ∙ ap (λ l. cut (merged fourth l)) (w ∙ ap (λ k. cut (gather (flow_fault k) [] lines)) context_is))
-      f
+      (f ∙ ap (λ l. cut (merged fifth l)) (r ∙ ap (λ k. cut (gather (rule_fault k lines) [] lines)) context_is))
+      g
 
   pub project_is : (title warnings : List (List ℕ)) (gages : List Gage) (subs : List Sub) (nodes : List Node) (links : List Link) (curves : List Curve) (series : List Series)
       (patterns : List Pattern) (inflows : List Inflow) (dry : List DryFlow) (rules : List Rule)
@@ -84,10 +89,10 @@ module _ (lines : List Line) (options : Options) (known : Known) (options_are : 
       → nodes ≡ nodes_of (context_of known) lines → links ≡ full_links (context_of known) lines
       → curves ≡ curves_of lines → series ≡ series_of options.start lines → patterns ≡ patterns_of lines
       → inflows ≡ counted_of (context_of known) inflow_form lines → dry ≡ counted_of (context_of known) dry_form lines
-      → rules ≡ []
+      → rules ≡ rules_of (context_of known) lines
       → record { title = title; warnings = warnings; options = options; gages = gages; subs = subs; nodes = nodes; links = links; curves = curves; series = series; patterns = patterns; inflows = inflows; dry = dry; rules = rules } ≡ given_project lines
   unfolding given_project
-  project_is title warnings gages subs nodes links curves series patterns inflows dry rules t w g s n l c1 c2 c3 f d no_rules =
+  project_is title warnings gages subs nodes links curves series patterns inflows dry rules t w g s n l c1 c2 c3 f d r =
       let gages_are = g ∙ ap (λ k. gages_of k lines) context_is in
       let subs_are = s ∙ (ap (λ m. full_subs m (context_of known) lines) method_is ∙ ap (λ k. full_subs (method_of lines) k lines) context_is) in
       let nodes_are = n ∙ ap (λ k. nodes_of k lines) context_is in
@@ -95,4 +100,5 @@ module _ (lines : List Line) (options : Options) (known : Known) (options_are : 
       let series_are = c2 ∙ ap (λ s. series_of s lines) start_is in
       let inflows_are = f ∙ ap (λ k. counted_of k inflow_form lines) context_is in
       let dry_are = d ∙ ap (λ k. counted_of k dry_form lines) context_is in
-      λ i. record { title = t i; warnings = w i; options = options_are i; gages = gages_are i; subs = subs_are i; nodes = nodes_are i; links = links_are i; curves = c1 i; series = series_are i; patterns = c3 i; inflows = inflows_are i; dry = dry_are i; rules = no_rules i }
+      let rules_are = r ∙ ap (λ k. rules_of k lines) context_is in
+      λ i. record { title = t i; warnings = w i; options = options_are i; gages = gages_are i; subs = subs_are i; nodes = nodes_are i; links = links_are i; curves = c1 i; series = series_are i; patterns = c3 i; inflows = inflows_are i; dry = dry_are i; rules = rules_are i }

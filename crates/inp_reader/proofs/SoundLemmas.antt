@@ -15,6 +15,7 @@ use Rattle.net_types.specs.declared.network.Node.{Node}
 use Rattle.net_types.specs.declared.options.InfilKind.{InfilKind}
 use Rattle.net_types.specs.declared.options.Options.{Options}
 use Rattle.net_types.specs.declared.project.Project.{Project}
+use Rattle.net_types.specs.declared.rules.Rule.{Rule}
 use Rattle.net_types.specs.declared.tables.Curve.{Curve}
 use Rattle.net_types.specs.declared.tables.CurveKind.{CurveKind}
 use Rattle.net_types.specs.declared.tables.CurveKind.TheVariants.{Storage, Pump1, Pump2, Pump3, Pump4, Tidal}
@@ -62,6 +63,11 @@ use Rattle.inp_sections.specs.CrossSections.{link_of_section, with_section, with
 use Rattle.inp_sections.specs.Losses.{kind_with_losses, link_of_losses, with_losses, with_own_losses}
 use Rattle.inp_sections.specs.Soundness.{AreSoundLosses, IsSoundSection, NamesLinks}
 use Rattle.inp_sections.proofs.SoundLemmas.{losses_sound, sections_sound}
+use Rattle.inp_rules.specs.Laws.{IsSoundRule, NamesObjects as NamesOfRules, size_of}
+use Rattle.inp_rules.specs.Rules.{rules_of}
+use Rattle.inp_rules.proofs.FewLemmas.{rules_few as few_rules}
+use Rattle.inp_rules.proofs.MeaningLemmas.{rules_meant, rules_one}
+use Rattle.inp_rules.proofs.SoundLemmas.{rules_sound}
 use Rattle.inp_series.specs.CurveLines.{curve_names, curve_states, curves_of}
 use Rattle.inp_series.specs.PatternLines.{pattern_names, patterns_of}
 use Rattle.inp_series.specs.SeriesLines.{series_names, series_of}
@@ -247,16 +253,6 @@ length-full_subs : (soil : List OwnInfil) (areas : List OwnAreas) (bare : List S
 unfolding with_areas with_infil
 length-full_subs soil areas bare = length-owned sub_of_infil with_own_infil 0 soil (with_areas areas bare) ∙ length-owned sub_of_areas with_own_areas 0 areas bare
 
--- ---- a list of nothing
-none_few : {A : Type 0} {list : List A} → list ≡ [] → length list ≤ RECORD_LIMIT
-none_few is = subst (λ l. length l ≤ RECORD_LIMIT) (sym is) (omega arith)
-
-none_sum : {A : Type 0} (f : A → ℕ) {list : List A} → list ≡ [] → sum_by f list ≤ 1_000_000
-none_sum f is = subst (λ l. sum_by f l ≤ 1_000_000) (sym is) (omega arith)
-
-none_all : {A : Type 0} (P : A → Type 0) {list : List A} → list ≡ [] → All P list
-none_all P is = subst (λ l. All P l) (sym is) (All-nil P)
-
 -- ---- numbers of names
 kept_is : (test : ℕ → Bool) (o : Option ℕ) (n : ℕ) → that_is test o ≡ Some n → o ≡ Some n
 kept_is test None n e = cc
@@ -387,6 +383,10 @@ module _ (lines : List Line) (project : Project) (has : HasCounts lines project)
     subs = within_count (sub_names lines) (length project.subs) has.subs;
   }
 
+  names_rules : NamesOfRules (known_in lines) project
+  unfolding context_in
+  names_rules = record { nodes = node_within; links = link_within }
+
   names_sources : NamesSources (known_in lines) project
   unfolding object_number context_in
   names_sources = record { nodes = node_within; series = series_within; patterns = pattern_within }
@@ -421,6 +421,10 @@ project_sound lines project clean options means =
     let inflows : All (IsSoundInflow project) project.inflows = inflows_sound known project sources lines project.inflows means.inflows_are in
     let dry : All (IsSoundDry project) project.dry = dry_flows_sound known project sources lines project.dry means.dry_are in
     let inflows_are = counted_mean_one inflow_form known lines project.inflows (counted_of known inflow_form lines) means.inflows_are (counted_mean inflow_form known lines none.inflows) in
+    let rules_are = rules_one known lines project.rules (rules_of known lines) means.rules_are (rules_meant known lines none.rules) in
+    let rules_few = few_rules known lines none.rules in
+    let on_rules = names_rules lines project has read in
+    let rules : All (IsSoundRule project) project.rules = subst (λ (l : List Rule). All (IsSoundRule project) l) (sym rules_are) (rules_sound known lines none.rules project on_rules) in
     let dry_are = counted_mean_one dry_form known lines project.dry (counted_of known dry_form lines) means.dry_are (counted_mean dry_form known lines none.dry) in
     record {
       options = options;
@@ -434,10 +438,10 @@ project_sound lines project clean options means =
         patterns = subst (λ (l : List Pattern). length l ≤ RECORD_LIMIT) (sym read.patterns) (few_patterns lines);
         inflows = subst (λ (l : List Inflow). length l ≤ RECORD_LIMIT) (sym inflows_are) (few_counted inflow_form known lines);
         dry = subst (λ (l : List DryFlow). length l ≤ RECORD_LIMIT) (sym dry_are) (few_counted dry_form known lines);
-        rules = none_few means.no_rules;
+        rules = subst (λ (l : List Rule). length l ≤ RECORD_LIMIT) (sym rules_are) rules_few.rules_few;
         points = subst (λ (l : List Curve). sum_by (λ curve. length curve.points) l ≤ 1_000_000) (sym read.curves) (few_points lines);
         entries = subst (λ (l : List Series). sum_by (λ series. length series.entries) l ≤ 1_000_000) (sym read.series) (few_entries start lines);
-        tests = none_sum (λ rule. sum_by (λ group. length group) rule.groups + length rule.then_acts + length rule.else_acts) means.no_rules;
+        tests = subst (λ (l : List Rule). sum_by size_of l ≤ 1_000_000) (sym rules_are) rules_few.pieces_few;
       };
       ranges = record {
         gages = all_of (IsSoundGage project) GageInRange (λ gage is. is.range) project.gages gages;
@@ -449,7 +453,7 @@ project_sound lines project clean options means =
         patterns = subst (λ (l : List Pattern). All PatternInRange l) (sym read.patterns) (patterns_in_range lines none.patterns);
         inflows = all_of (IsSoundInflow project) InflowInRange (λ inflow is. is.range) project.inflows inflows;
         dry = all_of (IsSoundDry project) DryFlowInRange (λ dry is. is.range) project.dry dry;
-        rules = none_all RuleInRange means.no_rules;
+        rules = all_of (IsSoundRule project) RuleInRange (λ rule is. is.range) project.rules rules;
       };
       names = record {
         gages = all_of (IsSoundGage project) (GageNames project) (λ gage is. is.names) project.gages gages;
@@ -458,6 +462,6 @@ project_sound lines project clean options means =
         links = all_of (IsGoodLink project) (LinkNames project) (λ link is. record { first = is.first; second = is.second; kind = is.kind }) project.links links;
         inflows = all_of (IsSoundInflow project) (InflowNames project) (λ inflow is. is.names) project.inflows inflows;
         dry = all_of (IsSoundDry project) (DryFlowNames project) (λ dry is. is.names) project.dry dry;
-        rules = none_all (RuleNames project) means.no_rules;
+        rules = all_of (IsSoundRule project) (RuleNames project) (λ rule is. is.names) project.rules rules;
       };
     }

@@ -43,6 +43,7 @@ treatment_of section.Orifices = BuiltSection
 treatment_of section.Weirs = BuiltSection
 treatment_of section.XSections = BuiltSection
 treatment_of section.Losses = BuiltSection
+treatment_of section.Controls = BuiltSection
 treatment_of section.Inflows = BuiltSection
 treatment_of section.Dwf = BuiltSection
 treatment_of section.Curves = BuiltSection

@@ -53,7 +53,8 @@ fn treated_fault(section: SectionName, names_section: bool) -> Option<Fault>
         | SectionName::Weirs
         | SectionName::XSections
         | SectionName::Losses => None,
-        SectionName::Inflows
+        SectionName::Controls
+        | SectionName::Inflows
         | SectionName::Dwf
         | SectionName::Curves
         | SectionName::TimeSeries

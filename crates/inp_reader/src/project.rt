@@ -14,6 +14,7 @@ use crate::surface::read_surface;
 use crate::title::read_title;
 use inp_lines::{Line, merge_faults};
 use inp_options::read_options;
+use inp_rules::read_rules;
 use net_types::{LineFault, List, OutOfMemory, Project};
 use std::alloc::Global;
 
@@ -39,6 +40,9 @@ pub(crate) fn read_lines(
     merge_faults(alloc, faults, &tables.faults)?;
     let flows = read_flows(alloc, &known, lines)?;
     merge_faults(alloc, faults, &flows.faults)?;
+    let mut rules = List::new(alloc);
+    let of_rules = read_rules(alloc, &known, lines, &mut rules)?;
+    merge_faults(alloc, faults, &of_rules)?;
     read_others(alloc, lines, faults)?;
     Ok(Project {
         title,
@@ -53,6 +57,6 @@ pub(crate) fn read_lines(
         patterns: tables.patterns,
         inflows: flows.inflows,
         dry: flows.dry,
-        rules: List::new(alloc),
+        rules,
     })
 }
