@@ -13,3 +13,4 @@ pub mod KeptLemmas
 pub mod ReportLemmas
 pub mod RunLemmas
 pub mod RunoffLemmas
+pub mod LineLemmas

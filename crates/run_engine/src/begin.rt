@@ -1,13 +1,13 @@
 // What a run begins with.
 ghost use Rattle.std.specs.Prelude.{◌≡◌, IfOk, length, replicate, pos};
-ghost use Rattle.run_engine.specs.Kept.{AreFloodsAt, AreSumsOf, IsStateAt};
+ghost use Rattle.run_engine.specs.Kept.{AreFloodsAt, AreLoadsAt, AreSumsOf, IsStateAt};
 ghost use Rattle.project_check.specs.Faultless.{IsFaultless};
 
-use crate::one_step::add_state;
+use crate::one_step::{add_load, add_state};
 use crate::settings::SettingRoom;
 use net_types::{List, OutOfMemory, Project};
 use std::alloc::Global;
-use summaries::Summaries;
+use summaries::{OutfallSums, Summaries};
 use trial_model::Nets;
 
 // So many zeros.
@@ -60,4 +60,19 @@ pub(crate) fn open_sums(
     let mut sums = Summaries::with_room(alloc, project)?;
     add_state(project, 0, 0, nets, floods.as_slice(), &mut sums);
     Ok(sums)
+}
+
+// The summaries of outfalls of the opening state, to which no step led.
+pub(crate) fn open_outfalls(
+    alloc: Global,
+    project: &Project,
+    nets: &Nets,
+) -> Result<OutfallSums, OutOfMemory>
+    requires project { IsFaultless project.now }
+    requires now { IsStateAt project.now 0 nets.now }
+    ensures { IfOk result (λ outfalls. AreLoadsAt project.now 1 outfalls) }
+{
+    let mut outfalls = OutfallSums::with_room(alloc, project)?;
+    add_load(project, 0, 0, nets, &mut outfalls);
+    Ok(outfalls)
 }
