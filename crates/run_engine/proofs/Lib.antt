@@ -14,3 +14,8 @@ pub mod ReportLemmas
 pub mod RunLemmas
 pub mod RunoffLemmas
 pub mod LineLemmas
+pub mod StepsLemmas
+pub mod SubLemmas
+pub mod OutfallLemmas
+pub mod SoilLemmas
+pub mod VolumeLemmas

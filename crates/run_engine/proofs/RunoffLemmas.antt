@@ -77,21 +77,30 @@ last_of {project} {earlier} {moment} {runoff} r between at =
     no_less n (pos ms) h = omega (arith, ints)
     no_less n (negsuc ms) h = absurd (omega (arith, ints, h))
 
--- where no step is due at a moment, the runoff is that of the moment
+-- where no step is due at a moment, all steps are done that end by then, and the runoff is that of the moment
+done_of : {project : Project} {moment : ℤ} {steps : ℕ} {runoff : Runoff} → IsLastAt project moment steps runoff
+    → ¬ ((runoff.begin +ℤ project.options.wet_ms) ≤ℤ moment) → AreDone project.options.wet_ms moment steps
+done_of {project} {moment} {steps} {runoff} last past =
+    let ms = project.options.wet_ms in
+    let more = moment_next project steps in
+    record {
+      ended = subst (λ (b : ℤ). b ≤ℤ moment) last.after.begins last.begun.to;
+      next = later (runoff.begin +ℤ ms) moment (pos (steps + 1) *ℤ ms) past (ap (λ (b : ℤ). b +ℤ ms) last.after.begins ∙ sym more);
+    }
+  where
+    later : (a b c : ℤ) → ¬ (a ≤ℤ b) → a ≡ c → b <ℤ c
+    later a b c h e = grind (arith, ints, h, e)
+
+pub count_of : {project : Project} {moment : ℤ} {steps : ℕ} {runoff : Runoff} → IsFaultless project
+    → IsLastAt project moment steps runoff → ¬ ((runoff.begin +ℤ project.options.wet_ms) ≤ℤ moment)
+    → steps ≡ steps_done project.options.wet_ms moment
+count_of {project} {moment} {steps} r last past = one_count project.options.wet_ms moment steps (run_wet project r) (done_of last past)
+
 pub at_of : {project : Project} {moment : ℤ} {steps : ℕ} {runoff : Runoff} → IsFaultless project
     → IsLastAt project moment steps runoff → ¬ ((runoff.begin +ℤ project.options.wet_ms) ≤ℤ moment)
     → IsRunoffAt project moment runoff
 at_of {project} {moment} {steps} {runoff} r last past =
-    let ms = project.options.wet_ms in
-    let more = moment_next project steps in
-    let done : AreDone ms moment steps = record {
-      ended = subst (λ (b : ℤ). b ≤ℤ moment) last.after.begins last.begun.to;
-      next = later (runoff.begin +ℤ ms) moment (pos (steps + 1) *ℤ ms) past (ap (λ (b : ℤ). b +ℤ ms) last.after.begins ∙ sym more);
-    } in
-    subst (λ (k : ℕ). IsRunoffAfter project (start_state project) (pos 0) k runoff) (one_count ms moment steps (run_wet project r) done) last.after
-  where
-    later : (a b c : ℤ) → ¬ (a ≤ℤ b) → a ≡ c → b <ℤ c
-    later a b c h e = grind (arith, ints, h, e)
+    subst (λ (k : ℕ). IsRunoffAfter project (start_state project) (pos 0) k runoff) (count_of r last past) last.after
 
 -- a step begins within the run, and its states are within what a step takes
 pub step_room : {project : Project} {moment : ℤ} {steps : ℕ} {runoff : Runoff} → moment ≤ℤ pos 316_224_000_000

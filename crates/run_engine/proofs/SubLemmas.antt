@@ -1,0 +1,98 @@
+-- The summaries of subcatchments: those of the steps of runoff that are done.
+use Rattle.std.proofs.Common.{◌≡◌, ◌∙◌, ℕ, zero, suc, ◌+◌, ◌*◌, ◌<◌, ◌≤◌, List, length, replicate, ℤ, pos, negsuc, ◌+ℤ◌, ◌*ℤ◌, ◌≤ℤ◌}
+use Rattle.std.proofs.Common.{refl, sym, ap, subst, arith}
+use Rattle.std.proofs.lemmas.Int.{ints}
+use Rattle.std.proofs.lemmas.List.{length-replicate}
+use Rattle.std.proofs.lemmas.List.FromFn.{fill_by_all}
+use Rattle.net_types.specs.declared.project.Project.{Project}
+use Rattle.project_check.specs.Faultless.{IsFaultless}
+use Rattle.runoff.specs.declared.states.SubState.{SubState}
+use Rattle.runoff.specs.declared.states.SubStep.{SubStep}
+use Rattle.runoff_states.specs.Runoff.{IsRunoffAfter, TellsStep}
+use Rattle.runoff_states.specs.RunoffStates.{moment_of, runoff_state, runoff_step, start_state}
+use Rattle.runoff_states.specs.declared.kept.Runoff.{Runoff}
+use Rattle.runoff_states.proofs.KeptLemmas.{moment_next}
+use Rattle.summaries.specs.Runoffs.{AreRunoffs, AreSmall, Runoffs, no_runoff, no_runoffs, runoff_of, summary_at}
+use Rattle.link_eval.specs.declared.hydraulics.Hydraulics.{Hydraulics}
+use Rattle.runoff_states.specs.RunoffTimes.{steps_done}
+use Rattle.runoff_states.proofs.TimeLemmas.{count_done}
+use Rattle.run_engine.specs.Kept.{AreRunoffsOf, IsKept}
+use Rattle.run_engine.specs.declared.kept.Kept.{Kept}
+use Rattle.run_engine.proofs.RunLemmas.{run_options}
+use Rattle.run_engine.specs.Results.{runoff_after, runoff_steps, runoffs_done, sub_summaries}
+use Rattle.run_engine.proofs.RunoffLemmas.{IsLastAt, run_wet}
+
+-- ---- how many steps there are
+-- steps of at least a second each
+thousands : (n : ℕ) (ms : ℤ) → pos 1_000 ≤ℤ ms → pos (1_000 * n) ≤ℤ pos n *ℤ ms
+thousands zero ms h = omega (arith, ints)
+thousands (suc n) ms h = omega (arith, ints, thousands n ms h, next n ms, h)
+  where
+    next : (k : ℕ) (x : ℤ) → pos (suc k) *ℤ x ≡ pos k *ℤ x +ℤ x
+    next k (pos x) = omega (arith, ints)
+    next k (negsuc x) = omega (arith, ints)
+
+pub few_steps : {project : Project} {steps : ℕ} {runoff : Runoff} → IsFaultless project
+    → IsRunoffAfter project (start_state project) (pos 0) steps runoff → runoff.begin ≤ℤ pos 316_224_000_000
+    → steps ≤ 316_224_000
+few_steps {project} {steps} {runoff} r after few =
+    omega (arith, ints, thousands steps project.options.wet_ms (run_wet project r).from, after.begins, few)
+
+pub few_done : {project : Project} {h : Hydraulics} {kept : Kept} → IsKept project h kept → steps_done project.options.wet_ms kept.moment ≤ 316_224_000
+few_done {project} {h} {kept} is =
+    let between = is.clock.range.between in
+    let done = count_done project.options.wet_ms kept.moment (run_wet project is.ready) between.from in
+    let last = (run_options project is.ready).duration.to in
+    omega (arith, ints, thousands (steps_done project.options.wet_ms kept.moment) project.options.wet_ms (run_wet project is.ready).from, done.ended, between.to, last)
+
+-- ---- what a step tells
+pub steps_are : {project : Project} {steps : ℕ} {runoff : Runoff} → TellsStep project (start_state project) steps runoff
+    → length runoff.steps ≡ length project.subs → runoff.steps ≡ runoff_steps project steps
+steps_are {project} {steps} {runoff} told places =
+    fill_by_all (runoff_step project (start_state project) steps) runoff.steps (length project.subs)
+    (record { rain = pos 0; infil = pos 0; runoff = pos 0; stored = pos 0 }) places told
+
+pub states_are : {project : Project} {steps : ℕ} {runoff : Runoff}
+    → IsRunoffAfter project (start_state project) (pos 0) (suc steps) runoff → runoff.states ≡ runoff_after project steps
+states_are {project} {steps} {runoff} after =
+    fill_by_all (runoff_state project (start_state project) (suc steps)) runoff.states (length project.subs) _
+    after.states.each_sub after.states.is
+
+-- ---- the summaries
+none_of : (count k : ℕ) (made : ℕ → List SubStep) (after : ℕ → List SubState) → k < count → summary_at (replicate count no_runoff) k ≡ runoff_of made after 0 k
+unfolding runoff_of
+none_of zero k made after h = absurd (omega (arith, h))
+none_of (suc count) k made after h = nothing (suc count) k
+  where
+    nothing : (n j : ℕ) → summary_at (replicate n no_runoff) j ≡ no_runoff
+    nothing zero j = refl
+    nothing (suc n) zero = refl
+    nothing (suc n) (suc j) = nothing n j
+
+pub runoffs_none : (project : Project) (runoffs : Runoffs) → runoffs ≡ no_runoffs project → AreSmall runoffs → AreRunoffsOf project 0 runoffs
+runoffs_none project runoffs is small = rw is (record {
+  small = subst AreSmall is small;
+  steps_are = refl;
+  places = length-replicate (length project.subs) no_runoff;
+  summaries = record { each = λ k h. none_of (length project.subs) k (runoff_steps project) (runoff_after project) (omega (arith, h, length-replicate (length project.subs) no_runoff)) };
+})
+
+pub runoffs_next : {project : Project} {steps : ℕ} {runoff : Runoff} {old new : Runoffs} → AreRunoffsOf project steps old
+    → IsRunoffAfter project (start_state project) (pos 0) (suc steps) runoff → TellsStep project (start_state project) steps runoff
+    → ((made : ℕ → List SubStep) (after : ℕ → List SubState) → AreRunoffs made after old → made old.steps ≡ runoff.steps
+    → after old.steps ≡ runoff.states → AreRunoffs made after new)
+    → AreSmall new → new.steps ≡ old.steps + 1 → length new.subs ≡ length old.subs → AreRunoffsOf project (suc steps) new
+runoffs_next {project} {steps} {runoff} {old} {new} are after told more small counted places = record {
+  small = small;
+  steps_are = omega (arith, counted, are.steps_are);
+  places = places ∙ are.places;
+  summaries = more (runoff_steps project) (runoff_after project) are.summaries
+      (ap (runoff_steps project) are.steps_are ∙ sym (steps_are told after.places))
+      (ap (runoff_after project) are.steps_are ∙ sym (states_are after));
+}
+
+pub subs_are : (project : Project) (k : ℕ) (runoffs : Runoffs) → AreRunoffsOf project (runoffs_done project k) runoffs → runoffs.subs ≡ sub_summaries project k
+unfolding sub_summaries
+subs_are project k runoffs are =
+    fill_by_all (runoff_of (runoff_steps project) (runoff_after project) (runoffs_done project k)) runoffs.subs (length project.subs) no_runoff are.places
+    (λ j h. are.summaries.each j (omega (arith, h, are.places)) ∙ ap (λ (n : ℕ). runoff_of (runoff_steps project) (runoff_after project) n j) are.steps_are)
