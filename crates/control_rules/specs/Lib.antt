@@ -2,3 +2,4 @@ pub mod Conditions
 pub mod Tests
 pub mod Settings
 pub mod Places
+pub mod WorkedRules

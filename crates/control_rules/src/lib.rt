@@ -13,5 +13,5 @@ mod places;
 mod settings;
 
 pub use facts::Facts;
-pub use laws::greatest_priority_decides;
+pub use laws::{greatest_priority_decides, worked_rules};
 pub use settings::settings_after;

@@ -261,7 +261,7 @@ kind_small ModifiedHorton = omega arith
 kind_small CurveNumber = omega arith
 
 -- what follows the header
-pub body : HotState → List ℕ
+unfoldable pub body : HotState → List ℕ
 body state = flat_map value_bytes state.heads ++ (flat_map link_bytes (zip state.flows state.settings) ++ (value_bytes state.least ++ flat_map sub_bytes state.subs))
 
 pub whole_is : (state : HotState) → hot_bytes state ≡ header state ++ body state

@@ -9,3 +9,7 @@ pub mod SubLemmas
 pub mod BackLemmas
 pub mod KeptLemmas
 pub mod OldLemmas
+pub mod SpelledLemmas
+pub mod FoundLemmas
+pub mod FoundSubs
+pub mod FileLemmas

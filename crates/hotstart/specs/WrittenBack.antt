@@ -1,11 +1,12 @@
--- What a written file is read back as (this project's profile).
-use Rattle.std.specs.Prelude.{◌≡◌, ℕ, List, [], ◌∷◌, ◌++◌, length, map, codes, ℤ, pos}
+-- What a written file is read back as, and which files are read (this project's profile).
+use Rattle.std.specs.Prelude.{◌≡◌, ℕ, ◌<◌, List, [], ◌∷◌, ◌++◌, length, map, codes, ℤ, pos}
 use Rattle.std.specs.List.{All, flat_map, zip}
 use Rattle.fixed_num.specs.Ranges.{IsFlow, IsHead, IsPart}
 use Rattle.infiltration.specs.declared.states.InfilState.{InfilState}
 use Rattle.infiltration.specs.declared.states.InfilState.TheVariants.{Horton, Number}
 use Rattle.net_types.specs.declared.project.Project.{Project}
-use Rattle.hotstart.specs.HotBytes.{count_bytes, kept, link_bytes, value_bytes}
+use Rattle.hotstart.specs.HotBytes.{count_bytes, hot_bytes, kept, link_bytes, value_bytes}
+use Rattle.hotstart.specs.HotRanges.{IsKept}
 use Rattle.hotstart.specs.Reading.{kind_of, start_sub}
 use Rattle.hotstart.specs.declared.state.HotState.{HotState}
 use Rattle.hotstart.specs.declared.state.HotSub.{HotSub}
@@ -74,3 +75,22 @@ pub record AreNetsFor (project : Project) (heads flows settings : List ℤ) : Ty
   pub heads_in : All IsHead heads
   pub flows_in : All IsFlow flows
   pub settings_in : All IsPart settings
+
+-- ---- the other way: what a good file is
+-- the bytes of a file are numbers below 256
+abbrev pub AreBytes : List ℕ → Type 0
+AreBytes file = All (λ byte. byte < 256) file
+
+-- a file of version 2 spells a state: it is the bytes that are written of it, and the state is one that a file keeps as
+-- it is, of this project
+pub record Spells (project : Project) (file : List ℕ) (state : HotState) : Type 0 where
+  pub bytes : hot_bytes state ≡ file
+  pub is_kept : IsKept state
+  pub fits : IsStateFor project state
+
+-- a file of version 1 spells the heads, flows and settings of a state: it is their bytes, each is in its range, and the
+-- state is the migration of them
+pub record SpellsOld (project : Project) (file : List ℕ) (state : HotState) : Type 0 where
+  pub bytes : old_bytes (length project.subs) state.heads state.flows state.settings ≡ file
+  pub nets : AreNetsFor project state.heads state.flows state.settings
+  pub migration : state ≡ migrated project state.heads state.flows state.settings

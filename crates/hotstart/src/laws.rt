@@ -1,11 +1,13 @@
 // Laws of definitions.
-ghost use Rattle.std.specs.Prelude.{◌≡◌, ℤ, length, List as Sequence};
+ghost use Rattle.std.specs.Prelude.{◌≡◌, ℕ, ℤ, true, false, length, List as Sequence};
 ghost use Rattle.net_types.specs.Sound.{IsSound};
 ghost use Rattle.net_types.specs.declared.project.Project.{Project as ProjectOf};
 ghost use Rattle.hotstart.specs.HotBytes.{hot_bytes};
 ghost use Rattle.hotstart.specs.HotRanges.{IsHotState, IsKept};
+ghost use Rattle.hotstart.specs.Layout.{is_old as is_old_file};
 ghost use Rattle.hotstart.specs.Reading.{reading_of};
-ghost use Rattle.hotstart.specs.WrittenBack.{AreNetsFor, HasThreeDepths, IsStateFor, kept_state, migrated, old_bytes};
+ghost use Rattle.hotstart.specs.WrittenBack.{AreBytes, AreNetsFor, HasThreeDepths, IsStateFor, Spells, SpellsOld};
+ghost use Rattle.hotstart.specs.WrittenBack.{kept_state, migrated, old_bytes};
 ghost use Rattle.hotstart.specs.declared.read.HotRead.TheVariants.{Good};
 ghost use Rattle.hotstart.specs.declared.state.HotState.{HotState as State};
 
@@ -34,4 +36,16 @@ pub fn old_file_is_migrated()
         → AreNetsFor project heads flows settings
         → reading_of project (old_bytes (length project.subs) heads flows settings)
         ≡ Good (migrated project heads flows settings) }
+{}
+
+/// Law: a good file is the bytes of its state. Bytes of version 2 that are read as a state of a project are the bytes
+/// that are written of this state, which has one head, flow, setting or state of runoff for each node, link and
+/// subcatchment, all in their ranges; bytes of version 1 are those of the heads, flows and settings of the state, whose
+/// least travel time and subcatchments are those of a migration. So, with the laws above, a file is good exactly where
+/// it is the bytes of a state in range, and no two files of a version are read as one state.
+pub fn good_file_is_written()
+    ensures new { (project : ProjectOf) (file : Sequence ℕ) (state : State) → IsSound project → AreBytes file
+        → is_old_file file ≡ false → reading_of project file ≡ Good state → Spells project file state }
+    ensures old { (project : ProjectOf) (file : Sequence ℕ) (state : State) → AreBytes file
+        → is_old_file file ≡ true → reading_of project file ≡ Good state → SpellsOld project file state }
 {}

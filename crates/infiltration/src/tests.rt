@@ -1,5 +1,5 @@
 // What a soil takes of the first rain.
-use crate::{HortonState, InfilState, infiltrate, start_state};
+use crate::{CurveState, HortonState, InfilState, depth_over, infiltrate, start_state};
 use net_types::Infil;
 
 const SAND: Infil = Infil::Horton {
@@ -35,8 +35,24 @@ fn a_curve_number_takes_a_part_of_the_first_rain(rt: HostRuntime) {
         dry: 604_800_000,
     };
     let mut state = start_state(&soil);
+    let room = 63_500_000;
+    assert_eq!(rt;
+        state,
+        InfilState::Number(CurveState {
+            room,
+            event_room: room,
+            rain: 0,
+            taken: 0,
+            dry: 0,
+        })
+    );
     assert_eq!(rt;
         infiltrate(&soil, &mut state, 50_800_000, 50_800_000, 300_000),
         28_222_222
     );
+}
+
+#[test]
+fn a_depth_of_five_minutes(rt: HostRuntime) {
+    assert_eq!(rt; depth_over(36_000_000, 300_000), 3_000_000);
 }

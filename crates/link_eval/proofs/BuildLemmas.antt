@@ -32,7 +32,12 @@ use Rattle.phase_law.specs.Laws.{AreEnds}
 use Rattle.link_eval.specs.Routed.{IsRoutedSection, IsRouted}
 use Rattle.link_eval.specs.Good.{IsGoodLink, IsGood}
 use Rattle.link_eval.specs.Hydraulics.{Hydraulics, LinkLaw, no_node_law, node_law_at, link_law_at}
-use Rattle.link_eval.specs.LinkLaws.{given_section, link_law_of, no_link_law}
+use Rattle.link_eval.specs.Ends.{ends_between}
+use Rattle.link_eval.specs.LinkLaws.{given_section, link_law_of, link_rule_of, no_link_law}
+use Rattle.link_eval.specs.declared.ends.LinkEnds.{LinkEnds}
+use Rattle.net_types.specs.Records.{node_at}
+use Rattle.net_types.specs.declared.network.Node.{Node}
+use Rattle.net_types.specs.declared.options.Options.{Options}
 use Rattle.link_eval.specs.declared.link_law.LinkRule.{LinkRule}
 
 -- laws of nodes and links, all of them good, and as many as the project has
@@ -60,6 +65,16 @@ laws_are_good project h sound nodes nodes_good links links_good curves =
 abbrev pub law_with : ℕ → ℕ → LinkRule → LinkLaw
 law_with first second rule = record { first = first; second = second; rule = rule }
 
+pub link_law_is : (nodes : List Node) (options : Options) (link : Link) {near far : Node} {ends : LinkEnds} {rule : LinkRule}
+    → near ≡ node_at nodes link.first → far ≡ node_at nodes link.second → ends ≡ ends_between near far
+    → rule ≡ link_rule_of options ends link.kind (given_section link.section) → law_with link.first link.second rule ≡ link_law_of nodes options link
+unfolding link_law_of
+link_law_is nodes options link {near} {far} e f g h =
+    let section = given_section link.section in
+    ap (λ (r : LinkRule). law_with link.first link.second r)
+    (h ∙ ap (λ (x : LinkEnds). link_rule_of options x link.kind section)
+    (g ∙ ap (λ (n : Node). ends_between n far) e ∙ ap (λ (m : Node). ends_between (node_at nodes link.first) m) f))
+
 -- ---- a link of a faultless project
 above_zero : (a : ℤ) → pos 0 ≤ℤ a → ¬ (a ≡ pos 0) → pos 1 ≤ℤ a
 above_zero (pos zero) h n = absurd (n refl)
@@ -79,6 +94,10 @@ some_section kind None there h g = let no : ⊥ = cc in absurd no
 -- a link that needs a section has one that can be routed
 pub routed_section : {project : Project} (link : Link) → IsRouted project link → ¬ (IsTrue (needs_none link.kind)) → IsRoutedSection (given_section link.section)
 routed_section link r needs = some_section link.kind link.section (r.good.has_section needs) r.range.section_in r.good.good_section
+
+-- only a pump needs none
+pub is_no_pump : {none : Bool} → none ≡ false → ¬ (IsTrue none)
+is_no_pump e t = let no : ⊥ = cc in no
 
 -- and the table of that can be routed
 pub table_good : {section : Section} {table : SectionTable} → IsRoutedSection section → table ≡ table_of section → IsTable table → RowBetween (pos 0) table.areas (full_area table) → IsConduitTable table

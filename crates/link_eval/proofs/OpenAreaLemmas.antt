@@ -1,5 +1,5 @@
 -- The area of the opening of an orifice is at most that of its full section.
-use Rattle.std.proofs.Common.{◌≡◌, ◌*◌, ◌^◌, Bool, true, false, cond, ◌&&◌, ℤ, pos, negsuc, ◌*ℤ◌, ◌≤ℤ◌, int_lt, refl, subst, arith}
+use Rattle.std.proofs.Common.{◌≡◌, ℕ, ◌*◌, ◌^◌, ◌≤◌, Bool, true, false, cond, ◌&&◌, ℤ, pos, negsuc, ◌*ℤ◌, ◌≤ℤ◌, int_lt, refl, subst, arith}
 use Rattle.std.specs.Int.{int_min}
 use Rattle.std.proofs.Math.Nat.{mul-le-mul_left}
 use Rattle.std.proofs.lemmas.Int.{ints, clamps}
@@ -59,5 +59,6 @@ area-most {table} {y} t h =
 
 pub open_area-between : (law : OrificeLaw) {setting : ℤ} (near far : ℤ) → IsOrificeLaw law → IsPart setting → IsBetween (pos 0) (open_area_of law setting near far) (pos (10 ^ 11))
 unfolding open_area_of
-open_area-between law near far l s =
-    area-most l.table (subst (λ (z : ℤ). orifice_depth_of law.orifice _ near far ≤ℤ z) l.full (depth-most law.orifice near far l.orifice s))
+open_area-between law {setting} near far l s =
+    area-most l.table
+    (subst (λ (z : ℤ). orifice_depth_of law.orifice setting near far ≤ℤ z) l.full (depth-most law.orifice near far l.orifice s))

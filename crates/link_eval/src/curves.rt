@@ -33,8 +33,8 @@ fn copy_points(alloc: Global, points: &[(i64, i64)]) -> Result<List<(i64, i64)>,
     ensures { IfOk result (λ copy. copy ≡ points.now) }
 {
     let mut copy = List::new(alloc);
-    for point in points {
-        copy.push(*point)?;
+    for i in 0..points.len() {
+        copy.push(points[i])?;
     }
     Ok(copy)
 }

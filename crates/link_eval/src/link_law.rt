@@ -1,5 +1,5 @@
 // The law of a link.
-ghost use Rattle.std.specs.Prelude.{◌≡◌, ◌^◌, length, IfOk, pos};
+ghost use Rattle.std.specs.Prelude.{◌≡◌, ◌*◌, ◌^◌, length, IfOk, pos};
 ghost use Rattle.fixed_num.specs.Ranges.{IsBetween, IsHead};
 ghost use Rattle.link_eval.specs.Ends.{AreLinkEnds};
 ghost use Rattle.link_eval.specs.Good.{IsGoodLink};

@@ -44,7 +44,10 @@ fn a_weir_goes_by_its_setting_and_its_gate(rt: HostRuntime) {
     };
     let full = weir_share(&law, &open, true, 250_000, 0, 0);
     assert_eq!(rt; (full.q, full.area1, full.time), (230_000, 0, 3_600_000));
-    assert_eq!(rt; weir_share(&law, &open, false, 250_000, 0, 200_000).q, 215_000);
+    assert_eq!(rt;
+        weir_share(&law, &open, false, 250_000, 0, 200_000).q,
+        215_000
+    );
     assert_eq!(rt; weir_share(&law, &open, true, 0, 250_000, 0).q, 0);
     assert_eq!(rt; weir_share(&law, &shut, true, 250_000, 0, 0).q, 0);
 }

@@ -3,6 +3,7 @@ pub mod FillLemmas
 pub mod LawLemmas
 pub mod OpeningLemmas
 pub mod OpeningTops
+pub mod PumpLemmas
 pub mod SettingLemmas
 pub mod PreparedLemmas
 pub mod StepLemmas

@@ -110,9 +110,11 @@ fn pumped_setting(project: &Project, heads: &[i64], links: &[LinkFixed], l: u32)
     requires setting { IsPart (link_fixed_at links.now l).setting }
     ensures { result ≡ pumped_setting project.now heads.now links.now l }
 {
+    let place = l as usize;
+    let own = project.links.as_slice();
+    let link = &own[place];
     let depth = first_depth(project, heads, l);
-    let kind = &project.links.as_slice()[l as usize].kind;
-    setting_by_depth(kind, depth, links[l as usize].setting)
+    setting_by_depth(&link.kind, depth, links[place].setting)
 }
 
 // The depth of water at the first node of a link, in µm.
@@ -123,8 +125,11 @@ fn first_depth(project: &Project, heads: &[i64], l: u32) -> i64
     ensures value { result ≡ first_depth project.now heads.now l }
     ensures range { IsFall result }
 {
-    let node = project.links.as_slice()[l as usize].first as usize;
-    heads[node] - project.nodes.as_slice()[node].invert
+    let links = project.links.as_slice();
+    let nodes = project.nodes.as_slice();
+    let link = &links[l as usize];
+    let node = &nodes[link.first as usize];
+    heads[link.first as usize] - node.invert
 }
 
 // The setting of a link of this kind with this depth at its first node, whose setting was this.

@@ -149,7 +149,7 @@ fn line_factor(patterns: &[Pattern], number: u32, beside: bool, at: &CalendarPoi
 }
 
 // The same of a pattern.
-fn beside_weekends(beside: bool, pattern: &Pattern, at: &CalendarPoint) -> i64
+pub(crate) fn beside_weekends(beside: bool, pattern: &Pattern, at: &CalendarPoint) -> i64
     requires pattern { PatternInRange pattern.now }
     requires at { IsPoint at.now }
     ensures value { result ≡ beside_weekends beside pattern.now at.now }

@@ -1,10 +1,13 @@
-ghost use Rattle.std.specs.Prelude.{◌≡◌};
+ghost use Rattle.std.specs.Prelude.{◌≡◌, ◌≤◌, IfOk};
+ghost use Rattle.net_types.specs.Ranges.{PatternInRange, most_factors};
 
-use crate::amounts::{flow_of, scaled};
+use crate::amounts::{beside_weekends, flow_of, scaled};
 use crate::patterns::kind_factor;
 use crate::stages::{elevation, hour6};
 use calendar_steps::CalendarPoint;
-use net_types::{FlowUnits, PatternKind};
+use net_types::{FlowUnits, List, OutOfMemory, Pattern, PatternKind, Text};
+use std::alloc::Global;
+use std::test::Fail;
 
 // An hour of a day of the week, 1 for Sunday, in March.
 fn point(weekday: u32, ms_of_day: i64) -> CalendarPoint
@@ -48,6 +51,32 @@ fn factors_of_days_and_months(rt: HostRuntime) {
         kind_factor(PatternKind::Monthly, &factors6, &monday),
         1_000_000
     );
+}
+
+// A pattern whose first hour has twice the flow.
+fn early_pattern(alloc: Global, kind: PatternKind) -> Result<Pattern, OutOfMemory>
+    requires { 1 ≤ most_factors kind }
+    ensures { IfOk result PatternInRange }
+{
+    let mut factors6 = List::new(alloc);
+    factors6.push(2_000_000)?;
+    let name = Text::from_slice(alloc, b"early")?;
+    Ok(Pattern {
+        name,
+        kind,
+        factors6,
+    })
+}
+
+#[test]
+fn hours_beside_weekends(rt: HostRuntime) -> Result<(), Fail> {
+    let hours = early_pattern(rt.alloc(), PatternKind::Hourly)?;
+    let weekends = early_pattern(rt.alloc(), PatternKind::Weekend)?;
+    assert_eq!(rt; beside_weekends(true, &hours, &point(1, 0)), 1_000_000);
+    assert_eq!(rt; beside_weekends(true, &weekends, &point(1, 0)), 2_000_000);
+    assert_eq!(rt; beside_weekends(true, &hours, &point(2, 0)), 2_000_000);
+    assert_eq!(rt; beside_weekends(true, &weekends, &point(2, 0)), 1_000_000);
+    Ok(())
 }
 
 #[test]

@@ -1,5 +1,5 @@
 use Rattle.std.proofs.Common.{◌≡◌, take}
 use Rattle.link_eval.proofs.curves.copy_points.Given as goal
 
-abbrev pub invariant-loop-point : goal.invariant-loop-point
-invariant-loop-point l = l.copy ≡ take l.point-index l.points
+abbrev pub invariant-loop-i : goal.invariant-loop-i
+invariant-loop-i l = l.copy ≡ take l.i l.points

@@ -18,17 +18,18 @@ pub prepare_nodes-requires-clause-outflows : goal.prepare_nodes-requires-clause-
 prepare_nodes-requires-clause-outflows c = outflows_are c.requires.fits.sums (law_nodes c.args.project.now) c.as_slice-outflows.ensures
 
 pub prepare_nodes-requires-clause-nodes : goal.prepare_nodes-requires-clause-nodes
-prepare_nodes-requires-clause-nodes c = laterals_are c.requires.fits.nodes (law_nodes c.args.project.now) c.as_mut_slice-2.ensures.value
+prepare_nodes-requires-clause-nodes c = laterals_are c.requires.fits.nodes (law_nodes c.args.project.now) c.as_mut_slice.ensures.value
 
 pub returns-clause-nets : goal.returns-clause-nets
 returns-clause-nets c =
     let links = simp (c.as_slice-heads.ensures, c.as_slice-flows.ensures, to_z-of_z, c.ranges.dt) at c.prepare_links.ensures in
     let nodes =
-    simp (c.as_slice-heads.ensures, c.as_slice-inflows.ensures, c.as_slice-outflows.ensures, c.as_mut_slice-2.ensures.value, to_z-of_z, c.ranges.dt, c.ranges.finish)
+    simp (c.as_slice-heads.ensures, c.as_slice-inflows.ensures, c.as_slice-outflows.ensures, c.as_mut_slice.ensures.value, to_z-of_z, c.ranges.dt, c.ranges.finish)
     at c.prepare_nodes.ensures in
     prepared_is c.args.project.now c.args.finish c.args.dt c.args.nets.now c.requires.law
-    (written_whole _ _ (c.prepare_links.auto.links ∙ ap length c.as_mut_slice.ensures.value) ∙ links)
-    (written_whole _ _ (c.prepare_nodes.auto.nodes ∙ ap length c.as_mut_slice-2.ensures.value) ∙ nodes)
+    c.requires.settings
+    (written_whole _ _ (c.prepare_links.auto.links ∙ ap length c.as_mut_slice-links.ensures.value) ∙ links)
+    (written_whole _ _ (c.prepare_nodes.auto.nodes ∙ ap length c.as_mut_slice.ensures.value) ∙ nodes)
 
 pub returns-clause-fits : goal.returns-clause-fits
 returns-clause-fits c =

@@ -4,7 +4,7 @@ use Rattle.net_types.specs.Records.{no_curve}
 use Rattle.link_eval.specs.Hydraulics.{rule_share}
 use Rattle.link_eval.specs.LinkLaws.{IsLinkRule, NamesOneOf}
 use Rattle.link_eval.specs.declared.link_law.LinkRule.{LinkRule}
-use Rattle.link_eval.proofs.law.HydraulicLaw.rule_share.Goals as goal
+use Rattle.link_eval.proofs.hydraulic_law.HydraulicLaw.rule_share.Goals as goal
 
 pub conduit_share-requires-clause-conduit : goal.conduit_share-requires-clause-conduit
 conduit_share-requires-clause-conduit c = let rule = subst IsLinkRule c.in-Conduit.is c.requires.rule in rw c.get-law.ensures rule.conduit
