@@ -30,20 +30,20 @@ module _ (project : Project) where
   pub before_without : (k : ℕ) → has_line project k ≡ false → line_before project (k + 1) ≡ line_before project k
   before_without k none = before_next k ∙ rw none refl
 
+  before_none : line_before project 0 ≡ 0
+  unfolding line_before
+  before_none = refl
+
+  one_of : (b : Bool) (n k before : ℕ) → before ≤ k → n ≡ (if b then k else before) → n ≤ k
+  one_of true n k before h e = omega (arith, e)
+  one_of false n k before h e = omega (arith, e, h)
+
   before_within : (k : ℕ) → line_before project (k + 1) ≤ k
-  before_within zero = by_line (has_line project 0) (before_next 0)
-    where
-      by_line : (b : Bool) → line_before project 1 ≡ (if b then 0 else line_before project 0) → line_before project 1 ≤ 0
-      unfolding line_before
-      by_line true e = omega (arith, e)
-      by_line false e = omega (arith, e)
-  before_within (suc k) = by_line (has_line project (suc k)) (before_next (suc k))
-    where
-      by_line : (b : Bool) → line_before project (suc k + 1) ≡ (if b then suc k else line_before project (suc k)) → line_before project (suc k + 1) ≤ suc k
-      by_line true e = omega (arith, e)
-      by_line false e =
-          let same : suc k ≡ k + 1 = omega arith in
-          omega (arith, e, ap (line_before project) same, before_within k)
+  before_within zero = one_of (has_line project 0) (line_before project (0 + 1)) 0 (line_before project 0) (omega (arith, before_none)) (before_next 0)
+  before_within (suc k) =
+      let same : suc k ≡ k + 1 = omega arith in
+      one_of (has_line project (suc k)) (line_before project (suc k + 1)) (suc k) (line_before project (suc k))
+      (omega (arith, ap (line_before project) same, before_within k)) (before_next (suc k))
 
   -- ---- the account since the line before
   since_is : (k : ℕ) (running : Running) → IsTotalFrom project (line_before project k) k running → account_since project k ≡ running.total

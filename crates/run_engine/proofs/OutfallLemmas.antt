@@ -9,7 +9,7 @@ use Rattle.fixed_num.specs.Lists.{number}
 use Rattle.fixed_num.specs.Ranges.{IsBetween, IsFlow, IsWithin}
 use Rattle.net_types.specs.declared.project.Project.{Project}
 use Rattle.phase_law.specs.Law.{Law}
-use Rattle.summaries.specs.Loads.{AreLoads, AreLoadsOf, HasNets, Loads, load_at, load_of, no_load, no_loads, outfalls_from}
+use Rattle.summaries.specs.Loads.{AreLoads, AreLoadsOf, HasNets, Loads, load_at, load_of, no_load, no_loads, outfall_nodes, outfalls_from}
 use Rattle.summaries.specs.declared.outfall_summary.OutfallSummary.{OutfallSummary}
 use Rattle.trial_model.specs.Fits.{Fits, node_fixed_at}
 use Rattle.trial_model.specs.Start.{no_node}
@@ -52,7 +52,7 @@ unfolding length_before
 length_next project k = rw (add-one k) refl
 
 -- ---- of no state
-nodes_none : (ns : List ℕ) → map (λ (o : OutfallSummary). o.node) (map no_load ns) ≡ ns
+nodes_none : (ns : List ℕ) → outfall_nodes (map no_load ns) ≡ ns
 nodes_none [] = refl
 nodes_none (n ∷ ns) = ap (λ (l : List ℕ). n ∷ l) (nodes_none ns)
 

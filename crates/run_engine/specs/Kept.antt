@@ -1,5 +1,5 @@
 -- What a run keeps between two steps, at the state of this number.
-use Rattle.std.specs.Prelude.{◌≡◌, ℕ, ◌+◌, ◌*◌, ◌^◌, ◌<◌, ◌≤◌, true, List, length, map, ℤ, pos}
+use Rattle.std.specs.Prelude.{◌≡◌, ℕ, ◌+◌, ◌*◌, ◌^◌, ◌<◌, ◌≤◌, true, List, length, ℤ, pos}
 use Rattle.fixed_num.specs.Ranges.{IsBetween}
 use Rattle.continuity.specs.Run.{Running, IsTotal}
 use Rattle.continuity.specs.StepOf.{IsBelowTops}
@@ -8,9 +8,8 @@ use Rattle.link_eval.specs.declared.hydraulics.Hydraulics.{Hydraulics}
 use Rattle.net_types.specs.declared.project.Project.{Project}
 use Rattle.report_writer.specs.declared.counts.RunCounts.{RunCounts}
 use Rattle.summaries.specs.Figures.{Figures, AreFigures, AreSummaries, inverts_of}
-use Rattle.summaries.specs.Loads.{AreLoads, AreLoadsOf, Loads, outfalls_from}
+use Rattle.summaries.specs.Loads.{AreLoads, AreLoadsOf, Loads, outfall_nodes, outfalls_from}
 use Rattle.summaries.specs.Runoffs.{AreRunoffs, AreSmall, Runoffs}
-use Rattle.summaries.specs.declared.outfall_summary.OutfallSummary.{OutfallSummary}
 use Rattle.trial_model.specs.Fits.{Fits}
 use Rattle.fixed_num.specs.Lists.{number}
 use Rattle.trial_model.specs.Trial.{SumsOf}
@@ -66,7 +65,7 @@ pub record AreSumsOf (project : Project) (count : ℕ) (figures : Figures) : Typ
 pub record AreLoadsAt (project : Project) (count : ℕ) (loads : Loads) : Type 0 where
   pub good : AreLoadsOf (length project.nodes) loads
   pub states : loads.states ≡ count
-  pub outfalls : map (λ (o : OutfallSummary). o.node) loads.outfalls ≡ outfalls_from 0 project.nodes
+  pub outfalls : outfall_nodes loads.outfalls ≡ outfalls_from 0 project.nodes
   pub summaries : AreLoads (nets_at project) (length_before project) loads
 
 -- the runoffs are those of the first so many steps of runoff, on the project's subcatchments

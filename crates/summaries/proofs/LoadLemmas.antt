@@ -1,18 +1,21 @@
 -- The summaries of outfalls, with no state and with one state more.
 use Rattle.std.proofs.Common.{◌≡◌, ◌∙◌, ℕ, zero, suc, ◌+◌, ◌*◌, ◌^◌, ◌<◌, ◌≤◌, ◌==◌, Bool, true, false, if◌then◌else◌}
 use Rattle.std.proofs.Common.{List, [], ◌∷◌, ◌++◌, length, map, take, get_or, ℤ, pos, ◌+ℤ◌, refl, sym, ap, subst, arith}
-use Rattle.std.proofs.Common.{inl, inr, append_assoc}
+use Rattle.std.proofs.Common.{◌/◌, negsuc, ◌*ℤ◌, inl, inr, append_assoc}
+use Rattle.std.specs.Prelude.{int_div}
 use Rattle.std.specs.Int.{int_max}
 use Rattle.std.proofs.lemmas.Bool.{cases_lt}
+use Rattle.std.proofs.lemmas.Bool.Decides.{nat_tests}
 use Rattle.std.proofs.lemmas.Int.{ints}
-use Rattle.std.proofs.lemmas.List.{map-append, take_more, length-map}
-use Rattle.fixed_num.specs.Ranges.{IsWithin}
+use Rattle.std.proofs.lemmas.List.{ext_get_or, get_or-map, map-append, take_more, length-map}
+use Rattle.fixed_num.specs.Ranges.{IsBetween, IsWithin}
+use Rattle.fixed_num.proofs.Bounds.{within_add, within_mul, within_up}
 use Rattle.fixed_num.specs.Sums.{sum_below}
 use Rattle.net_types.specs.declared.network.Node.{Node}
 use Rattle.net_types.specs.declared.project.Project.{Project}
 use Rattle.trial_model.specs.declared.nets.Nets.{Nets}
 use Rattle.summaries.specs.Loads.{AreLoads, AreLoadsOf, Loads, is_outfall_node, load_at, load_of, most_of, net_in}
-use Rattle.summaries.specs.Loads.{no_load, no_loads, outfalls_from, volume_in, with_load}
+use Rattle.summaries.specs.Loads.{no_load, no_loads, outfall_nodes, outfalls_from, volume_in, with_load}
 use Rattle.summaries.specs.declared.outfall_summary.OutfallSummary.{OutfallSummary}
 
 -- ---- no state
@@ -21,21 +24,21 @@ no_volume [] k = refl
 no_volume (n ∷ ns) zero = refl
 no_volume (n ∷ ns) (suc k) = no_volume ns k
 
+-- the number of each outfall among these nodes, with more behind or not
+number_within : (first most : ℕ) (later : List ℕ) (b : Bool) → first < most
+    → ((j : ℕ) → j < length (map no_load later) → (load_at (map no_load later) j).node < most)
+    → (j : ℕ) → j < length (map no_load (if b then first ∷ later else later))
+    → (load_at (map no_load (if b then first ∷ later else later)) j).node < most
+number_within first most later true below all zero h = below
+number_within first most later true below all (suc j) h = all j (omega (arith, h))
+number_within first most later false below all j h = all j h
+
 node_within : (first : ℕ) (nodes : List Node) (k : ℕ) → k < length (map no_load (outfalls_from first nodes))
     → (load_at (map no_load (outfalls_from first nodes)) k).node < first + length nodes
 node_within first [] k h = absurd (omega (arith, h))
-node_within first (node ∷ nodes) k h = by_kind (is_outfall_node node) k h
-  where
-    later : List ℕ
-    later = outfalls_from (first + 1) nodes
-
-    by_kind : (b : Bool) (j : ℕ) → j < length (map no_load (if b then first ∷ outfalls_from (first + 1) nodes
-        else outfalls_from (first + 1) nodes))
-        → (load_at (map no_load (if b then first ∷ outfalls_from (first + 1) nodes
-        else outfalls_from (first + 1) nodes)) j).node < first + length (node ∷ nodes)
-    by_kind true zero g = omega arith
-    by_kind true (suc j) g = omega (arith, node_within (first + 1) nodes j (omega (arith, g)))
-    by_kind false j g = omega (arith, node_within (first + 1) nodes j g)
+node_within first (node ∷ nodes) k h =
+    number_within first (first + length (node ∷ nodes)) (outfalls_from (first + 1) nodes) (is_outfall_node node)
+    (omega arith) (λ j g. omega (arith, node_within (first + 1) nodes j g)) k h
 
 pub no_loads_are : (project : Project) → AreLoadsOf (length project.nodes) (no_loads project)
 no_loads_are project = record {
@@ -44,25 +47,25 @@ no_loads_are project = record {
 }
 
 -- the outfalls of some nodes and one node more
+one_number : (b : Bool) (m n : ℕ) → m ≡ n → (if b then m ∷ [] else []) ≡ (if b then n ∷ [] else [])
+one_number true m n e = ap (λ (x : ℕ). x ∷ []) e
+one_number false m n e = refl
+
+front_number : (b : Bool) (first : ℕ) (more later end : List ℕ) → more ≡ later ++ end
+    → (if b then first ∷ more else more) ≡ (if b then first ∷ later else later) ++ end
+front_number true first more later end e = ap (λ (l : List ℕ). first ∷ l) e
+front_number false first more later end e = e
+
 from_more : (first : ℕ) (xs : List Node) (y : Node) → outfalls_from first (xs ++ y ∷ [])
     ≡ outfalls_from first xs ++ (if is_outfall_node y then (first + length xs) ∷ [] else [])
-from_more first [] y =
-    let same : first ≡ first + 0 = omega arith in
-    by_kind (is_outfall_node y) same
-  where
-    by_kind : (b : Bool) → first ≡ first + 0
-        → (if b then first ∷ [] else []) ≡ (if b then (first + 0) ∷ [] else [])
-    by_kind true e = ap (λ (n : ℕ). n ∷ []) e
-    by_kind false e = refl
+from_more first [] y = one_number (is_outfall_node y) first (first + 0) (omega arith)
 from_more first (x ∷ xs) y =
     let same : first + 1 + length xs ≡ first + length (x ∷ xs) = omega arith in
-    by_kind (is_outfall_node x) (from_more (first + 1) xs y
-    ∙ ap (λ (n : ℕ). outfalls_from (first + 1) xs ++ (if is_outfall_node y then n ∷ [] else [])) same)
-  where
-    by_kind : (b : Bool) {later more end : List ℕ} → more ≡ later ++ end
-        → (if b then first ∷ more else more) ≡ (if b then first ∷ later else later) ++ end
-    by_kind true e = ap (λ (l : List ℕ). first ∷ l) e
-    by_kind false e = e
+    front_number (is_outfall_node x) first (outfalls_from (first + 1) (xs ++ y ∷ [])) (outfalls_from (first + 1) xs)
+    (if is_outfall_node y then (first + length (x ∷ xs)) ∷ [] else [])
+    (from_more (first + 1) xs y
+    ∙ ap (λ (l : List ℕ). outfalls_from (first + 1) xs ++ l)
+    (one_number (is_outfall_node y) (first + 1 + length xs) (first + length (x ∷ xs)) same))
 
 -- the summaries of the outfalls among the first nodes, and among one more
 pub outfalls_more : (nodes : List Node) (n : ℕ) (d : Node) → n < length nodes
@@ -111,8 +114,22 @@ keeps_node : (first : Bool) (s : OutfallSummary) (net volume : ℤ) → (with_lo
 keeps_node true s net volume = refl
 keeps_node false s net volume = refl
 
+pub nodes_kept : (first : Bool) (nets : Nets) (ms : ℤ) (old new : List OutfallSummary) → length new ≡ length old
+    → ((k : ℕ) → k < length old → load_at new k
+    ≡ with_load first (load_at old k) (net_in nets (load_at old k).node) (volume_in nets ms (load_at old k).node))
+    → outfall_nodes new ≡ outfall_nodes old
+nodes_kept first nets ms old new same each =
+    let node = λ (s : OutfallSummary). s.node in
+    ext_get_or 0 (map node new) (map node old) (length-map new node ∙ same ∙ sym (length-map old node))
+    (λ k inside.
+    let there : k < length new = omega (arith, inside, length-map new node) in
+    let before : k < length old = omega (arith, there, same) in
+    let s = load_at old k in
+    get_or-map node new k (no_load 0) 0 there ∙ ap node (each k before)
+    ∙ keeps_node first s (net_in nets s.node) (volume_in nets ms s.node) ∙ sym (get_or-map node old k (no_load 0) 0 before))
+
 not_first : (n : ℕ) → (suc n == 0) ≡ false
-not_first n = refl
+not_first n = grind (arith, nat_tests)
 
 pub loads_more : (run : ℕ → Nets) (lengths : ℕ → ℤ) (old : Loads) (new : List OutfallSummary) → AreLoads run lengths old
     → length new ≡ length old.outfalls
@@ -131,7 +148,9 @@ loads_more run lengths old new sums same each = record { each = λ last e k h. o
         let s = load_at old.outfalls k in
         let was : load_at old.outfalls k ≡ load_of run lengths last (load_at old.outfalls k).node =
         sums.each last (omega (arith, e)) k h in
-        ap (λ (t : OutfallSummary). with_load false t (net_in (run (suc last)) s.node)
+        ap (λ (b : Bool). with_load b s (net_in (run (suc last)) s.node)
+        (volume_in (run (suc last)) (lengths (suc last)) s.node)) (not_first last)
+        ∙ ap (λ (t : OutfallSummary). with_load false t (net_in (run (suc last)) s.node)
         (volume_in (run (suc last)) (lengths (suc last)) s.node)) was
         ∙ load_more run lengths last s.node
 
@@ -183,3 +202,26 @@ loads_are nodes old new nets ms are same each small = record {
     within k h =
         let s = load_at old.outfalls k in
         rw (each k h) (by_first (old.states == 0) s (net_in nets s.node) (volume_in nets ms s.node) (are.volumes k) (small k h))
+
+-- half of the length of a step, and what comes in over it
+half_of : (n : ℕ) → int_div (pos n) (pos 2) ≡ pos (n / 2)
+half_of n = refl
+
+pub half_within : {ms : ℤ} → IsBetween (pos 0) ms (pos 3_600_000) → IsWithin 1_800_000 (int_div ms (pos 2))
+half_within {ms = pos n} h =
+    let m = h.to in
+    let small : n ≤ 3_600_000 = omega (arith, ints) in
+    let half : n / 2 ≤ 1_800_000 = omega arith in
+    rw (half_of n) (record { within = omega (arith, ints) })
+half_within {ms = negsuc n} h = let low = h.from in absurd (omega (arith, ints, low))
+
+pub volume_within : {old net ms : ℤ} → IsBetween (pos 0) ms (pos 3_600_000) → IsWithin (3 * 10 ^ 16) old
+    → IsWithin (3 * 10 ^ 16) net → IsWithin (10 ^ 24) (int_div ms (pos 2) *ℤ (old +ℤ net))
+volume_within h p q = within_up (within_mul (half_within h) (within_add p q)) tt
+
+-- what holds of all numbers below one, and of that one
+pub below_more : (P : ℕ → Type 0) (n : ℕ) → ((k : ℕ) → k < n → P k) → P n → (k : ℕ) → k < n + 1 → P k
+below_more P n all p k h = elim (cases_lt k n) [
+  | inl less ↦ all k less
+  | inr past ↦ let same : n ≡ k = omega (arith, h, past) in subst P same p
+]

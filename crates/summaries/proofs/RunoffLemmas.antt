@@ -8,10 +8,10 @@ use Rattle.std.proofs.lemmas.Int.{ints}
 use Rattle.fixed_num.specs.Ranges.{IsWithin}
 use Rattle.fixed_num.specs.Sums.{sum_below, sum_over}
 use Rattle.net_types.specs.declared.project.Project.{Project}
-use Rattle.runoff.specs.RunoffStep.{StepInRange}
+use Rattle.runoff.specs.RunoffStep.{HasVolumesWithin, StepInRange}
 use Rattle.runoff.specs.declared.states.SubState.{SubState}
 use Rattle.runoff.specs.declared.states.SubStep.{SubStep}
-use Rattle.summaries.specs.Runoffs.{AreRunoffs, AreSmall, IsRunoffWithin, Runoffs, flow_at, most_below, no_runoff}
+use Rattle.summaries.specs.Runoffs.{AreRunoffs, AreSmall, HaveSmallSums, IsRunoffWithin, IsTotal, Runoffs, flow_at, most_below, no_runoff}
 use Rattle.summaries.specs.Runoffs.{no_runoffs, runoff_of, summary_at, volumes_at, with_step}
 use Rattle.summaries.specs.declared.sub_summary.SubSummary.{SubSummary}
 
@@ -127,3 +127,64 @@ take_within f xs n most h = record { within = omega (arith, ints, h, below xs n)
     below ys zero = omega (arith, ints, not_negative ys)
     below [] (suc m) = omega (arith, ints)
     below (y ∷ ys) (suc m) = omega (arith, ints, below ys m)
+
+-- ---- the sums of all subcatchments, after the first so many
+-- the volumes of one subcatchment, and those of two sums
+abbrev pub volumes_of : SubSummary → SubStep
+volumes_of s = record { rain = s.rain; infil = s.infil; runoff = s.runoff; stored = s.stored }
+
+abbrev pub plus : SubStep → SubStep → SubStep
+plus a b = record {
+  rain = a.rain +ℤ b.rain;
+  infil = a.infil +ℤ b.infil;
+  runoff = a.runoff +ℤ b.runoff;
+  stored = a.stored +ℤ b.stored;
+}
+
+-- the summary of these volumes and of this greatest flow
+abbrev pub with_peak : SubStep → ℤ → SubSummary
+with_peak v peak = record { rain = v.rain; infil = v.infil; runoff = v.runoff; stored = v.stored; peak = peak }
+
+pub total_within : (subs : List SubSummary) (sums : SubStep) (k : ℕ) → HaveSmallSums subs → IsTotal (take k subs) sums
+    → HasVolumesWithin (10 ^ 37) sums
+total_within subs sums k h t = record {
+  rain = rw (t.rain) (take_within (λ (s : SubSummary). s.rain) subs k (10 ^ 37) h.rain);
+  infil = rw (t.infil) (take_within (λ (s : SubSummary). s.infil) subs k (10 ^ 37) h.infil);
+  runoff = rw (t.runoff) (take_within (λ (s : SubSummary). s.runoff) subs k (10 ^ 37) h.runoff);
+  stored = rw (t.stored) (take_within (λ (s : SubSummary). s.stored) subs k (10 ^ 37) h.stored);
+}
+
+pub total_more : (subs : List SubSummary) (sums : SubStep) (k : ℕ) → IsTotal (take k subs) sums → k < length subs
+    → IsTotal (take (k + 1) subs) (plus sums (volumes_of (get_or subs k no_runoff)))
+total_more subs sums k t h = record {
+  rain = rw (t.rain) (sym (sum_take (λ (s : SubSummary). s.rain) subs k no_runoff h));
+  infil = rw (t.infil) (sym (sum_take (λ (s : SubSummary). s.infil) subs k no_runoff h));
+  runoff = rw (t.runoff) (sym (sum_take (λ (s : SubSummary). s.runoff) subs k no_runoff h));
+  stored = rw (t.stored) (sym (sum_take (λ (s : SubSummary). s.stored) subs k no_runoff h));
+}
+
+-- the sums so far, the next volumes, and the sums with them are in range
+pub record FitSums (sums step : SubStep) : Type 0 where
+  pub before : HasVolumesWithin (10 ^ 37) sums
+  pub item : HasVolumesWithin (2 * 10 ^ 37) step
+  pub next : HasVolumesWithin (10 ^ 37) (plus sums step)
+
+difference : {a b : ℤ} → IsWithin (10 ^ 37) a → IsWithin (10 ^ 37) (a +ℤ b) → IsWithin (2 * 10 ^ 37) b
+difference p q = record { within = omega (arith, ints, p.within, q.within) }
+
+pub sums_fit : (subs : List SubSummary) (sums : SubStep) (k : ℕ) → HaveSmallSums subs → IsTotal (take k subs) sums
+    → k < length subs → FitSums sums (volumes_of (get_or subs k no_runoff))
+sums_fit subs sums k h t g =
+    let step = volumes_of (get_or subs k no_runoff) in
+    let before = total_within subs sums k h t in
+    let next = total_within subs (plus sums step) (k + 1) h (total_more subs sums k t g) in
+    record {
+      before = before;
+      item = record {
+        rain = difference before.rain next.rain;
+        infil = difference before.infil next.infil;
+        runoff = difference before.runoff next.runoff;
+        stored = difference before.stored next.stored;
+      };
+      next = next;
+    }

@@ -1,9 +1,9 @@
 // The summaries of outfalls.
-ghost use Rattle.std.specs.Prelude.{◌≡◌, ℕ, ◌+◌, ◌*◌, ◌^◌, ◌<◌, ◌≤◌, length, map, IfOk, ℤ, pos};
+ghost use Rattle.std.specs.Prelude.{◌≡◌, ℕ, ◌+◌, ◌*◌, ◌^◌, ◌<◌, ◌≤◌, length, map, IfOk, OnOk, if◌then◌else◌, [], ◌∷◌, ◌++◌, ℤ, pos};
 ghost use Rattle.fixed_num.specs.Ranges.{IsBetween, IsFlow, IsWithin};
 ghost use Rattle.trial_model.specs.declared.nets.Nets.{Nets as State};
 ghost use Rattle.summaries.specs.Loads.{AreLoads, AreLoadsOf, HasNets, load_at, net_by, net_in, no_load, no_loads};
-ghost use Rattle.summaries.specs.Loads.{is_outfall_node, outfalls_from, volume_by, volume_in, with_load};
+ghost use Rattle.summaries.specs.Loads.{is_outfall_node, outfall_nodes, outfalls_from, volume_by, volume_in, with_load};
 
 use net_types::{List, Node, NodeKind, OutOfMemory, Project};
 use phase_law::NodeFixed;
@@ -62,9 +62,11 @@ impl OutfallSums {
             → run self.old.states ≡ nets.now → lengths self.old.states ≡ ms → AreLoads run lengths self.new }
         ensures loads { AreLoadsOf (length nets.now.nodes) self.new }
         ensures states { self.new.states ≡ self.old.states + 1 }
+        ensures nodes { outfall_nodes self.new.outfalls ≡ outfall_nodes self.old.outfalls }
     {
         let first = self.states == 0;
-        add_loads(self.outfalls.as_mut_slice(), first, nets, ms);
+        let outfalls = self.outfalls.as_mut_slice();
+        add_loads(outfalls, first, nets, ms);
         self.states += 1;
     }
 
@@ -165,15 +167,24 @@ fn new_outfalls(alloc: Global, nodes: &[Node]) -> Result<List<OutfallSummary>, O
 {
     let mut list = List::new(alloc);
     for n in 0..nodes.len() {
-        if is_outfall(&nodes[n]) {
-            list.push(OutfallSummary {
-                node: n as u32,
-                volume: 0,
-                max_flow: 0,
-            })?;
-        }
+        add_outfall(&mut list, &nodes[n], n as u32)?;
     }
     Ok(list)
+}
+
+// Adds the summary of no state of a node, where it is an outfall.
+fn add_outfall(list: &mut List<OutfallSummary>, node: &Node, n: u32) -> Result<(), OutOfMemory>
+    ensures { OnOk result (list.new
+        ≡ list.old ++ map no_load (if is_outfall_node node.now then n ∷ [] else [])) }
+{
+    if is_outfall(node) {
+        return list.push(OutfallSummary {
+            node: n,
+            volume: 0,
+            max_flow: 0,
+        });
+    }
+    Ok(())
 }
 
 // Whether a node is an outfall.

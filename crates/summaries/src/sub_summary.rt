@@ -66,7 +66,8 @@ impl SubSums {
         ensures steps { self.new.steps ≡ self.old.steps + 1 }
         ensures subs { length self.new.subs ≡ length self.old.subs }
     {
-        add_steps(self.subs.as_mut_slice(), steps, states);
+        let subs = self.subs.as_mut_slice();
+        add_steps(subs, steps, states);
         self.steps += 1;
     }
 
