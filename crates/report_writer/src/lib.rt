@@ -17,6 +17,8 @@ mod peaks;
 mod runoffs;
 mod steps;
 mod tail;
+#[cfg(test)]
+mod tests;
 mod whole_tail;
 
 pub use accepted::put_accepted;

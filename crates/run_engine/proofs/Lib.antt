@@ -15,6 +15,7 @@ pub mod ReportLemmas
 pub mod RunLemmas
 pub mod RunoffLemmas
 pub mod LineLemmas
+pub mod LineLaws
 pub mod StepsLemmas
 pub mod SubLemmas
 pub mod OutfallLemmas

@@ -1,5 +1,5 @@
 -- The step lines of a run: which states have one, and what it says (this project's profile).
-use Rattle.std.specs.Prelude.{ℕ, zero, suc, ◌+◌, ◌-◌, ◌/◌, Bool, false, nat_lt, if◌then◌else◌, List, [], ◌++◌, ℤ}
+use Rattle.std.specs.Prelude.{ℕ, zero, suc, ◌+◌, ◌-◌, ◌/◌, Bool, false, nat_lt, if◌then◌else◌, List, [], ◌++◌, ℤ, pos, ◌*ℤ◌, ◌≤ℤ◌, ◌<ℤ◌}
 use Rattle.std.specs.Int.RustNames.{unsigned_abs}
 use Rattle.continuity.specs.Sums.{total_of}
 use Rattle.net_types.specs.declared.account.StepAccount.{StepAccount}
@@ -22,6 +22,12 @@ reaches_report options before after = nat_lt (reports_at options before) (report
 unfoldable pub has_line : Project → ℕ → Bool
 has_line project zero = false
 has_line project (suc k) = reaches_report project.options (moment_at project k) (moment_at project (suc k))
+
+-- a multiple of the report step is past state k, and not past the next state
+pub record ReachesReport (project : Project) (k : ℕ) : Type 0 where
+  pub multiple : ℕ
+  pub after : moment_at project k <ℤ (pos multiple *ℤ project.options.report_ms)
+  pub reached : (pos multiple *ℤ project.options.report_ms) ≤ℤ moment_at project (k + 1)
 
 -- the greatest state below k that has a line, or the opening state
 unfoldable pub line_before : Project → ℕ → ℕ

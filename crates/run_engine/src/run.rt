@@ -48,7 +48,7 @@ pub struct Run {
 
 impl Model for Run {
     ghost use Rattle.run_engine.specs.Progress.{Progress};
-    ghost use Rattle.std.specs.Prelude.{◌×◌, ◌+◌};
+    ghost use Rattle.std.specs.Prelude.{◌+◌};
     ghost use Rattle.run_engine.specs.Kept.{IsKept, IsTotalFrom};
     ghost use Rattle.run_engine.specs.StepLines.{line_before};
 
