@@ -14,7 +14,8 @@ use Rattle.link_eval.specs.Good.{IsGood}
 use Rattle.link_eval.specs.Hydraulics.{Hydraulics, node_law_at, link_law_at, mid_area_at, law_of, rule_mid_area, rule_volume}
 use Rattle.link_eval.specs.LinkLaws.{IsLinkRule}
 use Rattle.link_eval.specs.declared.link_law.LinkRule.{LinkRule}
-use Rattle.link_eval.specs.declared.link_law.LinkRule.TheVariants.{Conduit as ConduitRule, Pump as PumpRule, Orifice as OrificeRule, Weir as WeirRule}
+use Rattle.link_eval.specs.declared.link_law.LinkRule.TheVariants.{Conduit as ConduitRule, Pump as PumpRule}
+use Rattle.link_eval.specs.declared.link_law.LinkRule.TheVariants.{Orifice as OrificeRule, Weir as WeirRule}
 use Rattle.link_eval.specs.LawGood.{head_in, fixed_in}
 
 -- ---- a link, by its rule and by its number

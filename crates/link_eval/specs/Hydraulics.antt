@@ -19,7 +19,8 @@ use Rattle.link_eval.specs.Orifices.{orifice_share_of}
 use Rattle.link_eval.specs.Pumps.{pump_share_of}
 use Rattle.link_eval.specs.Weirs.{weir_share_of}
 use Rattle.link_eval.specs.declared.link_law.LinkRule.{LinkRule}
-use Rattle.link_eval.specs.declared.link_law.LinkRule.TheVariants.{Conduit as ConduitRule, Pump as PumpRule, Orifice as OrificeRule, Weir as WeirRule}
+use Rattle.link_eval.specs.declared.link_law.LinkRule.TheVariants.{Conduit as ConduitRule, Pump as PumpRule}
+use Rattle.link_eval.specs.declared.link_law.LinkRule.TheVariants.{Orifice as OrificeRule, Weir as WeirRule}
 pub use Rattle.link_eval.specs.declared.hydraulics.Hydraulics.{Hydraulics}
 pub use Rattle.link_eval.specs.declared.link_law.LinkLaw.{LinkLaw}
 
@@ -75,7 +76,8 @@ abbrev pub rule_share : Hydraulics → LinkRule → (node : ℕ) → LinkFixed �
 rule_share h (ConduitRule law) node fixed first near far last =
     share_of law.conduit law.table fixed first near far last
 rule_share h (PumpRule law) node fixed first near far last =
-    pump_share_of law (curve_at h.curves law.curve) (node_volume_of (node_law_at h node) near) fixed first near far last
+    let volume = node_volume_of (node_law_at h node) near in
+    pump_share_of law (curve_at h.curves law.curve) volume fixed first near far last
 rule_share h (OrificeRule law) node fixed first near far last = orifice_share_of law fixed first near far last
 rule_share h (WeirRule law) node fixed first near far last = weir_share_of law fixed first near far last
 

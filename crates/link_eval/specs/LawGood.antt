@@ -31,7 +31,8 @@ use Rattle.link_eval.specs.Orifices.{orifice_share_of}
 use Rattle.link_eval.specs.Pumps.{pump_share_of}
 use Rattle.link_eval.specs.Weirs.{weir_share_of}
 use Rattle.link_eval.specs.declared.link_law.LinkRule.{LinkRule}
-use Rattle.link_eval.specs.declared.link_law.LinkRule.TheVariants.{Conduit as ConduitRule, Pump as PumpRule, Orifice as OrificeRule, Weir as WeirRule}
+use Rattle.link_eval.specs.declared.link_law.LinkRule.TheVariants.{Conduit as ConduitRule, Pump as PumpRule}
+use Rattle.link_eval.specs.declared.link_law.LinkRule.TheVariants.{Orifice as OrificeRule, Weir as WeirRule}
 
 -- ---- the share of a conduit
 least_of : (b : Bool) (q m : ℤ) → pos 0 ≤ℤ q → pos 0 ≤ℤ m → IsBetween (pos 0) (cond b m (int_min q m)) m

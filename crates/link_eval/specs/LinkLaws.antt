@@ -17,7 +17,8 @@ use Rattle.link_eval.specs.Weirs.{IsWeirLaw, no_weir_law, weir_law_of}
 use Rattle.link_eval.specs.declared.ends.LinkEnds.{LinkEnds}
 use Rattle.link_eval.specs.declared.link_law.LinkLaw.{LinkLaw}
 use Rattle.link_eval.specs.declared.link_law.LinkRule.{LinkRule}
-use Rattle.link_eval.specs.declared.link_law.LinkRule.TheVariants.{Conduit as ConduitRule, Pump as PumpRule, Orifice as OrificeRule, Weir as WeirRule}
+use Rattle.link_eval.specs.declared.link_law.LinkRule.TheVariants.{Conduit as ConduitRule, Pump as PumpRule}
+use Rattle.link_eval.specs.declared.link_law.LinkRule.TheVariants.{Orifice as OrificeRule, Weir as WeirRule}
 
 -- the section of a link, and one of which all is 0 where it has none
 abbrev pub no_section : Section

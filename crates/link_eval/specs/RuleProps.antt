@@ -5,7 +5,8 @@ use Rattle.std.proofs.Props.{props}
 use Rattle.node_update.specs.RuleProps.{node_rule_prop}
 use Rattle.link_eval.specs.LinkLaws.{IsLinkRule, NamesOneOf}
 use Rattle.link_eval.specs.declared.link_law.LinkRule.{LinkRule}
-use Rattle.link_eval.specs.declared.link_law.LinkRule.TheVariants.{Conduit as ConduitRule, Pump as PumpRule, Orifice as OrificeRule, Weir as WeirRule}
+use Rattle.link_eval.specs.declared.link_law.LinkRule.TheVariants.{Conduit as ConduitRule, Pump as PumpRule}
+use Rattle.link_eval.specs.declared.link_law.LinkRule.TheVariants.{Orifice as OrificeRule, Weir as WeirRule}
 
 pub link_rule_prop : (rule : LinkRule) → IsProp (IsLinkRule rule)
 link_rule_prop (ConduitRule law) = hlevel props

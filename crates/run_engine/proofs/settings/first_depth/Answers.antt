@@ -26,23 +26,26 @@ bounds-heads-link c =
     let d = (goal.at.bounds-heads-link c).After-index-links-l in
     omega (arith, first_inside c.requires.project c.args.l c.requires.l (link d), c.requires.heads.count, law_nodes c.args.project.now)
 
+here : (c : After-index-nodes-link) → c.index-links-l.result ≡ link_at c.args.project.now.links c.args.l
+here c = link_is c.as_slice-links.ensures c.requires.l c.index-links-l.is
+
 node : (c : After-index-nodes-link) → c.index-nodes-link.result ≡ node_of c.args.project.now.nodes c.index-links-l.result.first
 node c =
     let first = c.index-links-l.result.first in
     let inside : first < length c.as_slice-nodes.result.now =
-    omega (arith, first_inside c.requires.project c.args.l c.requires.l (link c.After-index-links-l), ap length c.as_slice-nodes.ensures) in
+    omega (arith, first_inside c.requires.project c.args.l c.requires.l (here c), ap length c.as_slice-nodes.ensures) in
     node_is c.as_slice-nodes.result.now first c.index-nodes-link.result inside c.index-nodes-link.is
     ∙ ap (λ (nodes : List Node). node_of nodes first) c.as_slice-nodes.ensures
 
 depth : (c : After-index-nodes-link) → IsFall (number c.args.heads.now c.index-links-l.result.first -ℤ c.index-nodes-link.result.invert)
 depth c =
     subst (λ (n : Node). IsFall (number c.args.heads.now c.index-links-l.result.first -ℤ n.invert)) (sym (node c))
-    (depth_in c.requires.project c.args.l c.requires.l c.requires.heads (link c.After-index-links-l))
+    (depth_in c.requires.project c.args.l c.requires.l c.requires.heads (here c))
 
 value : (c : After-index-nodes-link) → number c.args.heads.now c.index-links-l.result.first -ℤ c.index-nodes-link.result.invert ≡ first_depth c.args.project.now c.args.heads.now c.args.l
 value c =
     ap (λ (n : Node). number c.args.heads.now c.index-links-l.result.first -ℤ n.invert) (node c)
-    ∙ ap (λ (x : Link). number c.args.heads.now x.first -ℤ (node_of c.args.project.now.nodes x.first).invert) (link c.After-index-links-l)
+    ∙ ap (λ (x : Link). number c.args.heads.now x.first -ℤ (node_of c.args.project.now.nodes x.first).invert) (here c)
 
 pub overflow_sub-result : goal.overflow_sub-result
 overflow_sub-result c =
