@@ -21,3 +21,4 @@ pub mod SubLemmas
 pub mod OutfallLemmas
 pub mod SoilLemmas
 pub mod VolumeLemmas
+pub mod InputLemmas

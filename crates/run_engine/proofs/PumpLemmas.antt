@@ -51,5 +51,5 @@ module _ {project : Project} (r : IsFaultless project) (l : ℕ) (inside : l < l
   depth_in fit e = within_up (within_sub (head_at fit e) (invert_in e)) tt
 
 -- the settings of links that fit
-pub setting_in : {project : Project} {links : List LinkFixed} (l : ℕ) → LinksFit (project_law project) links → l < length project.links → IsPart (link_fixed_at links l).setting
-setting_in {project} l fit inside = (fit.each l (omega (arith, law_links project, inside))).setting
+pub setting_in : (project : Project) {links : List LinkFixed} (l : ℕ) → LinksFit (project_law project) links → l < length project.links → IsPart (link_fixed_at links l).setting
+setting_in project l fit inside = (fit.each l (omega (arith, law_links project, inside))).setting

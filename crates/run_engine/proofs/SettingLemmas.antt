@@ -26,7 +26,7 @@ use Rattle.trial_model.specs.Fits.{LinksFit, link_fixed_at}
 use Rattle.trial_model.specs.declared.nets.Nets.{Nets}
 use Rattle.trial_model.proofs.RangeLemmas.{listed}
 use Rattle.project_check.specs.Faultless.{IsFaultless}
-use Rattle.run_engine.specs.Settings.{conditions_in, pumped_setting, pumped_settings, setting_by_depth, settings_in}
+use Rattle.run_engine.specs.Settings.{conditions_in, first_depth, pumped_setting, pumped_settings, setting_by_depth, settings_in}
 
 -- ---- pumps
 set_in : (shut start : Bool) {setting : ℤ} → IsPart setting → IsPart (if shut then pos 0 else if start then pos 1_000_000 else setting)
@@ -34,13 +34,13 @@ set_in true start h = record { from = omega (arith, ints); to = omega (arith, in
 set_in false true h = record { from = omega (arith, ints); to = omega (arith, ints) }
 set_in false false h = h
 
-pub kind_set_in : (kind : LinkKind) {depth setting : ℤ} → IsPart setting → IsPart (setting_by_depth kind depth setting)
+pub kind_set_in : (kind : LinkKind) (depth : ℤ) {setting : ℤ} → IsPart setting → IsPart (setting_by_depth kind depth setting)
 unfolding pump_setting_of
-kind_set_in (Conduit long n6 z1 z2 q0 q_max entry6 exit6 avg6 flap) h = h
-kind_set_in (Pump curve on startup shutoff) {depth} h =
+kind_set_in (Conduit long n6 z1 z2 q0 q_max entry6 exit6 avg6 flap) depth h = h
+kind_set_in (Pump curve on startup shutoff) depth h =
     set_in (int_lt (pos 0) shutoff && int_le depth shutoff) (int_lt (pos 0) startup && int_le startup depth) h
-kind_set_in (Orifice bottom offset cd6 flap) h = h
-kind_set_in (Weir notch crest cd6 flap contractions) h = h
+kind_set_in (Orifice bottom offset cd6 flap) depth h = h
+kind_set_in (Weir notch crest cd6 flap contractions) depth h = h
 
 -- ---- rules
 abbrev HasPart : Taken → Type 0
@@ -109,6 +109,6 @@ settings_part project moment s l r setting inside =
     let count = pumped_count project s.heads s.links in
     let pumped : IsPart (number seen.settings l) =
     subst IsPart (sym (listed (pumped_setting project s.heads s.links) (length project.links) l (pos 0) inside))
-    (kind_set_in (link_at project.links l).kind setting) in
+    (kind_set_in (link_at project.links l).kind (first_depth project s.heads l) setting) in
     subst IsPart (sym (listed (setting_after project.nodes project.rules seen) (length seen.settings) l (pos 0) (omega (arith, inside, count))))
     (after_part project seen l r pumped)

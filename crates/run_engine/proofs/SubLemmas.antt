@@ -77,6 +77,14 @@ runoffs_none project runoffs is small = rw is (record {
   summaries = record { each = λ k h. none_of (length project.subs) k (runoff_steps project) (runoff_after project) (omega (arith, h, length-replicate (length project.subs) no_runoff)) };
 })
 
+pub opened_runoffs : (project : Project) → IsFaultless project → (runoffs : Runoffs) → runoffs ≡ no_runoffs project → AreSmall runoffs
+    → AreRunoffsOf project (steps_done project.options.wet_ms (pos 0)) runoffs
+opened_runoffs project r runoffs is small =
+    let done = count_done project.options.wet_ms (pos 0) (run_wet project r) (omega (arith, ints)) in
+    let none : 0 ≡ steps_done project.options.wet_ms (pos 0) =
+    omega (arith, ints, thousands (steps_done project.options.wet_ms (pos 0)) project.options.wet_ms (run_wet project r).from, done.ended) in
+    subst (λ (n : ℕ). AreRunoffsOf project n runoffs) none (runoffs_none project runoffs is small)
+
 pub runoffs_next : {project : Project} {steps : ℕ} {runoff : Runoff} {old new : Runoffs} → AreRunoffsOf project steps old
     → IsRunoffAfter project (start_state project) (pos 0) (suc steps) runoff → TellsStep project (start_state project) steps runoff
     → ((made : ℕ → List SubStep) (after : ℕ → List SubState) → AreRunoffs made after old → made old.steps ≡ runoff.steps

@@ -14,7 +14,11 @@ pumped_setting-requires-clause-links c = c.requires.links.count ∙ law_links c.
 pub pumped_setting-requires-clause-setting : goal.pumped_setting-requires-clause-setting
 pumped_setting-requires-clause-setting c =
     let inside : c.loop-l.l < length c.args.project.now.links = omega (arith, c.loop-l-test.true, ap length c.as_slice.ensures) in
-    setting_in c.loop-l.l c.requires.links inside
+    setting_in c.args.project.now c.loop-l.l c.requires.links inside
+
+pub bounds-settings-l : goal.bounds-settings-l
+bounds-settings-l c =
+    omega (arith, c.loop-l.invariant.count, c.requires.places, c.loop-l-test.true, ap length c.as_slice.ensures)
 
 pub returns : goal.returns
 returns c = filled_all c.loop-l.invariant _ c.requires.places (omega (arith, c.loop-l-test.false, ap length c.as_slice.ensures))
