@@ -20,6 +20,10 @@ module _ (project : Project) where
   unfolding has_line
   has_line_next k = rw (add-one k) refl
 
+  pub line_reached : (k : ℕ) {before after : ℤ} {test : Bool} → before ≡ moment_at project k → after ≡ moment_at project (k + 1) → test ≡ reaches_report project.options before after
+      → has_line project (k + 1) ≡ test
+  line_reached k p q is = has_line_next k ∙ sym (is ∙ rw (p, q) refl)
+
   before_next : (k : ℕ) → line_before project (k + 1) ≡ (if has_line project k then k else line_before project k)
   unfolding line_before
   before_next k = rw (add-one k) refl

@@ -84,5 +84,5 @@ outfalls_are project k loads are =
     number_at l i = slice_index_or l i 0
 
 -- each is one of a node
-pub outfall_nodes : {nodes : ℕ} {loads : Loads} → AreLoadsOf nodes loads → All (λ (o : OutfallSummary). o.node < nodes) loads.outfalls
-outfall_nodes {nodes} {loads} are = All-from_get_or (λ (o : OutfallSummary). o.node < nodes) loads.outfalls (no_load 0) are.nodes_of
+pub outfall_nodes_in : {nodes : ℕ} {loads : Loads} → AreLoadsOf nodes loads → All (λ (o : OutfallSummary). o.node < nodes) loads.outfalls
+outfall_nodes_in {nodes} {loads} are = All-from_get_or (λ (o : OutfallSummary). o.node < nodes) loads.outfalls (no_load 0) are.nodes_of

@@ -12,14 +12,15 @@ use Rattle.runoff_states.specs.Runoff.{IsRunoffAfter, TellsStep}
 use Rattle.runoff_states.specs.RunoffStates.{moment_of, runoff_state, runoff_step, start_state}
 use Rattle.runoff_states.specs.declared.kept.Runoff.{Runoff}
 use Rattle.runoff_states.proofs.KeptLemmas.{moment_next}
-use Rattle.summaries.specs.Runoffs.{AreRunoffs, AreSmall, Runoffs, no_runoff, no_runoffs, runoff_of, summary_at}
+use Rattle.summaries.specs.Runoffs.{AreRunoffs, AreSmall, IsTotal, Runoffs, no_runoff, no_runoffs, runoff_of, summary_at}
 use Rattle.link_eval.specs.declared.hydraulics.Hydraulics.{Hydraulics}
 use Rattle.runoff_states.specs.RunoffTimes.{steps_done}
 use Rattle.runoff_states.proofs.TimeLemmas.{count_done}
 use Rattle.run_engine.specs.Kept.{AreRunoffsOf, IsKept}
 use Rattle.run_engine.specs.declared.kept.Kept.{Kept}
 use Rattle.run_engine.proofs.RunLemmas.{run_options}
-use Rattle.run_engine.specs.Results.{runoff_after, runoff_steps, runoffs_done, sub_summaries}
+use Rattle.run_engine.specs.Results.{runoff_after, runoff_steps, runoffs_done, sub_summaries, total_runoff}
+use Rattle.summaries.specs.declared.sub_summary.SubSummary.{SubSummary}
 use Rattle.run_engine.proofs.RunoffLemmas.{IsLastAt, run_wet}
 
 -- ---- how many steps there are
@@ -104,3 +105,11 @@ unfolding sub_summaries
 subs_are project k runoffs are =
     fill_by_all (runoff_of (runoff_steps project) (runoff_after project) (runoffs_done project k)) runoffs.subs (length project.subs) no_runoff are.places
     (λ j h. are.summaries.each j (omega (arith, h, are.places)) ∙ ap (λ (n : ℕ). runoff_of (runoff_steps project) (runoff_after project) n j) are.steps_are)
+
+-- the sums of all subcatchments are the one total
+pub total_runoff_is : (subs : List SubSummary) (total : SubStep) → IsTotal subs total → total ≡ total_runoff subs
+total_runoff_is subs total is = same is.rain is.infil is.runoff is.stored
+  where
+    same : {a b c d e f g h : ℤ} → a ≡ e → b ≡ f → c ≡ g → d ≡ h
+        → ◌≡◌ {A = SubStep} (record { rain = a; infil = b; runoff = c; stored = d }) (record { rain = e; infil = f; runoff = g; stored = h })
+    same p q r s = rw (p, q, r, s) refl

@@ -256,6 +256,7 @@ impl Run {
         ensures cause { HasCause (W.faults rpt.old) (W.faults rpt.new) result }
         ensures project { self.new.project ≡ self.old.project }
         ensures steps { self.new.counts.steps ≡ self.old.counts.steps + 1 }
+        ensures at { IsAt self.new self.new.counts.steps }
     {
         step_and_line(
             &self.project,
