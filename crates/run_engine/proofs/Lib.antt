@@ -13,6 +13,7 @@ pub mod SumsLemmas
 pub mod KeptLemmas
 pub mod ReportLemmas
 pub mod RunLemmas
+pub mod LateralLemmas
 pub mod RunoffLemmas
 pub mod LineLemmas
 pub mod LineLaws

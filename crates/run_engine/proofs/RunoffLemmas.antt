@@ -1,6 +1,8 @@
 -- The runoff of a run: its subcatchments can be stepped, and its steps are those that are done.
 use Rattle.std.proofs.Common.{◌≡◌, ◌∙◌, ℕ, suc, ◌+◌, ◌*◌, ◌^◌, ◌/◌, ◌<◌, List, [], length, Option, Some, None, IfSome, IsSome}
-use Rattle.std.proofs.Common.{ℤ, pos, negsuc, ◌+ℤ◌, ◌-ℤ◌, ◌*ℤ◌, ◌≤ℤ◌, ◌<ℤ◌, refl, sym, ap, subst, arith}
+use Rattle.std.proofs.Common.{ℤ, pos, negsuc, ◌+ℤ◌, ◌-ℤ◌, ◌*ℤ◌, ◌≤ℤ◌, ◌<ℤ◌, refl, sym, ap, subst, arith, true, false}
+use Rattle.std.specs.Prelude.{int_le}
+use Rattle.std.specs.Int.RustNames.{unsigned_abs}
 use Rattle.std.specs.List.{All}
 use Rattle.std.proofs.lemmas.Int.{ints}
 use Rattle.std.proofs.lemmas.List.Elements.{All-from_get_or, All-get_or}
@@ -36,7 +38,10 @@ soil_is (Some (Horton max min decay6 dry volume)) r s g = record {
   ordered = g;
 }
 soil_is (Some (Number cn6 dry)) r s g = (r.number_in, r.dry_in)
-soil_is None r s g = absurd s
+soil_is None r s g = absurd (nothing s)
+  where
+    nothing : IsSome {T = Infil} None → ⊥
+    nothing h = let never : ⊥ = cc in never
 
 sub_is : (sub : Sub) → SubInRange sub → IsGoodSub sub → IsInfil (infil_or sub.infil)
 sub_is sub r g = soil_is sub.infil r.infil_in g.has_infil g.rates
@@ -54,6 +59,10 @@ pub run_wet : (project : Project) → IsFaultless project → IsRunoffStep proje
 run_wet project r = r.sound.options.wet_in
 
 -- ---- the steps that are done
+product_next : (n : ℕ) (x : ℤ) → pos (n + 1) *ℤ x ≡ pos n *ℤ x +ℤ x
+product_next n (pos x) = omega (arith, ints)
+product_next n (negsuc x) = omega (arith, ints)
+
 -- a moment before the end of the longest run, by which all these steps have ended, and which the next one doesn't end by
 pub record IsLastAt (project : Project) (moment : ℤ) (steps : ℕ) (runoff : Runoff) : Type 0 where
   pub after : IsRunoffAfter project (start_state project) (pos 0) steps runoff
@@ -73,31 +82,25 @@ last_of {project} {earlier} {moment} {runoff} r between at =
       };
     }
   where
-    no_less : (n : ℕ) (ms : ℤ) → pos 1_000 ≤ℤ ms → pos 0 ≤ℤ pos n *ℤ ms
+    no_less : (n : ℕ) (ms : ℤ) → pos 1_000 ≤ℤ ms → pos 0 ≤ℤ (pos n *ℤ ms)
     no_less n (pos ms) h = omega (arith, ints)
     no_less n (negsuc ms) h = absurd (omega (arith, ints, h))
 
--- where no step is due at a moment, all steps are done that end by then, and the runoff is that of the moment
-done_of : {project : Project} {moment : ℤ} {steps : ℕ} {runoff : Runoff} → IsLastAt project moment steps runoff
-    → ¬ ((runoff.begin +ℤ project.options.wet_ms) ≤ℤ moment) → AreDone project.options.wet_ms moment steps
-done_of {project} {moment} {steps} {runoff} last past =
-    let ms = project.options.wet_ms in
-    let more = moment_next project steps in
-    record {
-      ended = subst (λ (b : ℤ). b ≤ℤ moment) last.after.begins last.begun.to;
-      next = later (runoff.begin +ℤ ms) moment (pos (steps + 1) *ℤ ms) past (ap (λ (b : ℤ). b +ℤ ms) last.after.begins ∙ sym more);
-    }
-  where
-    later : (a b c : ℤ) → ¬ (a ≤ℤ b) → a ≡ c → b <ℤ c
-    later a b c h e = grind (arith, ints, h, e)
-
+-- where no step is due at a moment, the steps that were made are those that are done, and the runoff is that of the moment
 pub count_of : {project : Project} {moment : ℤ} {steps : ℕ} {runoff : Runoff} → IsFaultless project
-    → IsLastAt project moment steps runoff → ¬ ((runoff.begin +ℤ project.options.wet_ms) ≤ℤ moment)
+    → IsLastAt project moment steps runoff → moment <ℤ (runoff.begin +ℤ project.options.wet_ms)
     → steps ≡ steps_done project.options.wet_ms moment
-count_of {project} {moment} {steps} r last past = one_count project.options.wet_ms moment steps (run_wet project r) (done_of last past)
+count_of {project} {moment} {steps} {runoff} r last past =
+    let ms = project.options.wet_ms in
+    let more = product_next steps ms in
+    let done : AreDone ms moment steps = record {
+      ended = subst (λ (b : ℤ). b ≤ℤ moment) last.after.begins last.begun.to;
+      next = subst (λ (m : ℤ). moment <ℤ m) (ap (λ (b : ℤ). b +ℤ ms) last.after.begins ∙ sym more) past;
+    } in
+    one_count ms moment steps (run_wet project r) done
 
 pub at_of : {project : Project} {moment : ℤ} {steps : ℕ} {runoff : Runoff} → IsFaultless project
-    → IsLastAt project moment steps runoff → ¬ ((runoff.begin +ℤ project.options.wet_ms) ≤ℤ moment)
+    → IsLastAt project moment steps runoff → moment <ℤ (runoff.begin +ℤ project.options.wet_ms)
     → IsRunoffAt project moment runoff
 at_of {project} {moment} {steps} {runoff} r last past =
     subst (λ (k : ℕ). IsRunoffAfter project (start_state project) (pos 0) k runoff) (count_of r last past) last.after
@@ -137,5 +140,21 @@ opened {project} {runoff} r after = at_of r (record {
     none : (ms : ℤ) → pos 0 *ℤ ms ≡ pos 0
     none ms = omega (arith, ints)
 
-    first : (begin ms : ℤ) → begin ≡ pos 0 → pos 1_000 ≤ℤ ms → ¬ ((begin +ℤ ms) ≤ℤ pos 0)
-    first begin ms e h = λ k. omega (arith, ints, e, h, k)
+    first : (begin ms : ℤ) → begin ≡ pos 0 → pos 1_000 ≤ℤ ms → pos 0 <ℤ (begin +ℤ ms)
+    first begin ms e h = omega (arith, ints, e, h)
+
+-- the time that is left falls with each step
+pub less_left : (moment old new ms : ℤ) → pos 1_000 ≤ℤ ms → new ≡ old +ℤ ms → (old +ℤ ms) ≤ℤ moment
+    → unsigned_abs (moment -ℤ new) < unsigned_abs (moment -ℤ old)
+less_left moment old new ms h e k = omega (arith, ints, h, e, k)
+
+pub le_from : (a b : ℤ) → int_le a b ≡ true → a ≤ℤ b
+le_from a b e = grind (arith, ints)
+
+pub above_from : (a b : ℤ) → int_le a b ≡ false → b <ℤ a
+above_from a b e = grind (arith, ints)
+
+pub step_begins : {project : Project} {steps : ℕ} {old new : Runoff} → IsRunoffAfter project (start_state project) (pos 0) steps old
+    → IsRunoffAfter project (start_state project) (pos 0) (suc steps) new → new.begin ≡ old.begin +ℤ project.options.wet_ms
+step_begins {project} {steps} {old} {new} before after =
+    after.begins ∙ moment_next project steps ∙ ap (λ (b : ℤ). b +ℤ project.options.wet_ms) (sym before.begins)

@@ -11,7 +11,6 @@ use Rattle.runoff.specs.declared.states.SubStep.{SubStep}
 use Rattle.runoff_states.specs.Runoff.{IsRunoffAfter, TellsStep}
 use Rattle.runoff_states.specs.RunoffStates.{moment_of, runoff_state, runoff_step, start_state}
 use Rattle.runoff_states.specs.declared.kept.Runoff.{Runoff}
-use Rattle.runoff_states.proofs.KeptLemmas.{moment_next}
 use Rattle.summaries.specs.Runoffs.{AreRunoffs, AreSmall, IsTotal, Runoffs, no_runoff, no_runoffs, runoff_of, summary_at}
 use Rattle.link_eval.specs.declared.hydraulics.Hydraulics.{Hydraulics}
 use Rattle.runoff_states.specs.RunoffTimes.{steps_done}
@@ -33,11 +32,10 @@ thousands (suc n) ms h = omega (arith, ints, thousands n ms h, next n ms, h)
     next k (pos x) = omega (arith, ints)
     next k (negsuc x) = omega (arith, ints)
 
-pub few_steps : {project : Project} {steps : ℕ} {runoff : Runoff} → IsFaultless project
-    → IsRunoffAfter project (start_state project) (pos 0) steps runoff → runoff.begin ≤ℤ pos 316_224_000_000
-    → steps ≤ 316_224_000
-few_steps {project} {steps} {runoff} r after few =
-    omega (arith, ints, thousands steps project.options.wet_ms (run_wet project r).from, after.begins, few)
+pub few_before : {project : Project} {moment : ℤ} {steps : ℕ} {runoff : Runoff} {runoffs : Runoffs} → IsFaultless project → moment ≤ℤ pos 316_224_000_000
+    → IsLastAt project moment steps runoff → AreRunoffsOf project steps runoffs → runoffs.steps < 400_000_000
+few_before {project} {moment} {steps} {runoff} {runoffs} r few last are =
+    omega (arith, ints, thousands steps project.options.wet_ms (run_wet project r).from, last.after.begins, last.begun.to, few, are.steps_are)
 
 pub few_done : {project : Project} {h : Hydraulics} {kept : Kept} → IsKept project h kept → steps_done project.options.wet_ms kept.moment ≤ 316_224_000
 few_done {project} {h} {kept} is =
