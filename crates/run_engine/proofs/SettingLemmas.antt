@@ -26,7 +26,10 @@ use Rattle.trial_model.specs.Fits.{LinksFit, link_fixed_at}
 use Rattle.trial_model.specs.declared.nets.Nets.{Nets}
 use Rattle.trial_model.proofs.RangeLemmas.{listed}
 use Rattle.project_check.specs.Faultless.{IsFaultless}
-use Rattle.run_engine.specs.Settings.{conditions_in, first_depth, pumped_setting, pumped_settings, setting_by_depth, settings_in}
+use Rattle.run_engine.specs.Settings.{conditions_in, first_depth, pumped_setting, pumped_settings, seen_inflow, seen_inflows, setting_by_depth, settings_in}
+use Rattle.calendar_steps.specs.declared.point.CalendarPoint.{CalendarPoint}
+use Rattle.phase_law.specs.declared.values.NodeFixed.{NodeFixed}
+use Rattle.time_series.specs.LateralFlow.{run_point}
 
 -- ---- pumps
 set_in : (shut start : Bool) {setting : ℤ} → IsPart setting → IsPart (if shut then pos 0 else if start then pos 1_000_000 else setting)
@@ -112,3 +115,20 @@ settings_part project moment s l r setting inside =
     (kind_set_in (link_at project.links l).kind (first_depth project s.heads l) setting) in
     subst IsPart (sym (listed (setting_after project.nodes project.rules seen) (length seen.settings) l (pos 0) (omega (arith, inside, count))))
     (after_part project seen l r pumped)
+
+pub seen_count : (project : Project) (inflows : List ℤ) (nodes : List NodeFixed) → length (seen_inflows project inflows nodes) ≡ length project.nodes
+seen_count project inflows nodes = length-map-range_with_len (seen_inflow inflows nodes) 0 (length project.nodes)
+
+-- what the rules leave, where they see a state
+pub rules_leave : (project : Project) (moment : ℤ) (s : Nets) {settings heads inflows flows pumped : List ℤ} {elapsed : ℤ} {calendar : CalendarPoint}
+    → settings ≡ settings_of project (record { heads = heads; inflows = inflows; flows = flows; settings = pumped; elapsed = elapsed; calendar = calendar })
+    → heads ≡ s.heads → inflows ≡ seen_inflows project s.inflows s.nodes → flows ≡ s.flows
+    → pumped ≡ pumped_settings project s.heads s.links → elapsed ≡ moment → calendar ≡ run_point project moment
+    → settings ≡ settings_in project moment s
+unfolding settings_in
+rules_leave project moment s is e1 e2 e3 e4 e5 e6 = is ∙ ap (settings_of project) (seen_are e1 e2 e3 e4 e5 e6)
+  where
+    seen_are : {h h2 i i2 f f2 p p2 : List ℤ} {t t2 : ℤ} {c c2 : CalendarPoint} → h ≡ h2 → i ≡ i2 → f ≡ f2 → p ≡ p2 → t ≡ t2 → c ≡ c2
+        → ◌≡◌ {A = Conditions} (record { heads = h; inflows = i; flows = f; settings = p; elapsed = t; calendar = c })
+        (record { heads = h2; inflows = i2; flows = f2; settings = p2; elapsed = t2; calendar = c2 })
+    seen_are a b d e g k = cc

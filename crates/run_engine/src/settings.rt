@@ -36,30 +36,50 @@ pub(crate) fn find_settings(project: &Project, moment: i64, nets: &Nets, room: &
     ensures settings { room.new.settings ≡ settings_in project.now moment nets.now }
     ensures places { HasPlaces project.now room.new }
 {
-    let inflows = room.inflows.as_mut_slice();
-    see_inflows(
-        project,
-        nets.inflows.as_slice(),
-        nets.nodes.as_slice(),
-        inflows,
-    );
-    let pumped = room.pumped.as_mut_slice();
-    find_pumped(
-        project,
-        nets.heads.as_slice(),
-        nets.links.as_slice(),
-        pumped,
-    );
-    let settings = room.settings.as_mut_slice();
-    settings.copy_from_slice(pumped);
+    see_state(project, nets, room);
+    follow_rules(project, moment, nets, room);
+}
+
+// Finds what the rules see beside heads and flows: the inflows of the nodes, and the settings by the depths.
+fn see_state(project: &Project, nets: &Nets, room: &mut SettingRoom)
+    requires project { IsFaultless project.now }
+    requires fits { Fits (project_law project.now) nets.now }
+    requires places { HasPlaces project.now room.old }
+    ensures inflows { room.new.inflows ≡ seen_inflows project.now nets.now.inflows nets.now.nodes }
+    ensures pumped { room.new.pumped ≡ pumped_settings project.now nets.now.heads nets.now.links }
+    ensures settings { room.new.settings ≡ room.old.settings }
+{
+    let inflows = nets.inflows.as_slice();
+    let nodes = nets.nodes.as_slice();
+    see_inflows(project, inflows, nodes, room.inflows.as_mut_slice());
+    let heads = nets.heads.as_slice();
+    let links = nets.links.as_slice();
+    find_pumped(project, heads, links, room.pumped.as_mut_slice());
+}
+
+// Finds the settings that the rules leave, by what they see in a state at this moment.
+fn follow_rules(project: &Project, moment: i64, nets: &Nets, room: &mut SettingRoom)
+    requires project { IsFaultless project.now }
+    requires moment { IsRunMoment project.now moment }
+    requires fits { Fits (project_law project.now) nets.now }
+    requires inflows { room.old.inflows ≡ seen_inflows project.now nets.now.inflows nets.now.nodes }
+    requires pumped { room.old.pumped ≡ pumped_settings project.now nets.now.heads nets.now.links }
+    requires places { length room.old.settings ≡ length project.now.links }
+    ensures settings { room.new.settings ≡ settings_in project.now moment nets.now }
+    ensures inflows { room.new.inflows ≡ room.old.inflows }
+    ensures pumped { room.new.pumped ≡ room.old.pumped }
+{
+    let pumped = room.pumped.as_slice();
     let facts = Facts {
         heads: nets.heads.as_slice(),
-        inflows,
+        inflows: room.inflows.as_slice(),
         flows: nets.flows.as_slice(),
         settings: pumped,
         elapsed: moment,
         at: point_at(project.options.start, moment),
     };
+    let settings = room.settings.as_mut_slice();
+    settings.copy_from_slice(pumped);
     settings_after(project, &facts, settings);
 }
 

@@ -20,5 +20,13 @@ pub bounds-settings-l : goal.bounds-settings-l
 bounds-settings-l c =
     omega (arith, c.loop-l.invariant.count, c.requires.places, c.loop-l-test.true, ap length c.as_slice.ensures)
 
+pub loop-l-preserved : goal.loop-l-preserved
+loop-l-preserved c =
+    let l = c.loop-l.l in
+    let fits : FitsSigned w64 c.pumped_setting.result = search rules in
+    let room : l < length c.loop-l.settings =
+    omega (arith, c.loop-l.invariant.count, c.requires.places, c.loop-l-test.true, ap length c.as_slice.ensures) in
+    filled_more c.loop-l.invariant _ room (to_z-of_z w64 _ fits ∙ c.pumped_setting.ensures)
+
 pub returns : goal.returns
 returns c = filled_all c.loop-l.invariant _ c.requires.places (omega (arith, c.loop-l-test.false, ap length c.as_slice.ensures))
