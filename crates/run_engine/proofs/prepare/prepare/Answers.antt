@@ -4,9 +4,17 @@ use Rattle.trial_model.specs.declared.nets.Nets.{Nets}
 use Rattle.trial_model.specs.Fits.{Fits}
 use Rattle.trial_model.proofs.TrialLemmas.{written_whole}
 use Rattle.run_engine.specs.States.{project_law}
-use Rattle.run_engine.proofs.LawLemmas.{law_nodes, project_good}
+use Rattle.link_eval.specs.Hydraulics.{law_of}
+use Rattle.link_eval.specs.declared.hydraulics.Hydraulics.{Hydraulics}
+use Rattle.run_engine.proofs.LawLemmas.{law_links, law_nodes, project_good}
+use Rattle.run_engine.proofs.SettingLemmas.{settings_count}
 use Rattle.run_engine.proofs.PreparedLemmas.{inflows_are, laterals_are, outflows_are, prepared_fits, prepared_is}
 use Rattle.run_engine.proofs.prepare.prepare.Goals as goal
+
+pub prepare_links-requires-clause-settings : goal.prepare_links-requires-clause-settings
+prepare_links-requires-clause-settings c =
+    ap length c.requires.settings ∙ settings_count c.args.project.now _ _ ∙ sym (law_links c.args.project.now)
+    ∙ ap (λ (h : Hydraulics). (law_of h).links) (sym c.requires.law)
 
 pub prepare_nodes-requires-clause-heads : goal.prepare_nodes-requires-clause-heads
 prepare_nodes-requires-clause-heads c = ap length c.as_slice-heads.ensures ∙ c.requires.fits.heads.count ∙ law_nodes c.args.project.now
