@@ -1,6 +1,7 @@
 -- The step lines of a run with one state more, and the account since the last of them.
 use Rattle.std.proofs.Common.{◌≡◌, ◌∙◌, ℕ, zero, suc, ◌+◌, ◌-◌, ◌<◌, ◌≤◌, Bool, true, false, eqb, if◌then◌else◌, List, [], ◌++◌, ℤ, pos}
 use Rattle.std.proofs.Common.{refl, sym, ap, subst, arith, add-one, append-nil, append_assoc, Option}
+use Rattle.std.proofs.lemmas.Bool.Decides.{nat_tests}
 use Rattle.continuity.proofs.TotalLemmas.{total_none}
 use Rattle.continuity.specs.Run.{IsTotal, Running, nothing}
 use Rattle.continuity.specs.Sums.{total_of}
@@ -126,8 +127,7 @@ module _ (project : Project) where
   last_is (suc k) running moment at here = by_line (has_line project (suc k)) refl
     where
       some : (n : ℕ) → 0 < n → eqb n 0 ≡ false
-      some zero h = absurd (omega (arith, h))
-      some (suc n) h = refl
+      some n h = grind (arith, nat_tests, h)
 
       by_line : (b : Bool) → has_line project (suc k) ≡ b → (if eqb running.steps 0 then [] else step_line moment running.total) ≡ (if b then [] else line_at project (suc k))
       by_line true line =

@@ -14,12 +14,9 @@ use Rattle.fixed_num.proofs.RoundingLemmas.{IsNearest-quo_of}
 use Rattle.infiltration.specs.CurveNumber.{IsCurveState, number_taken_of, rain_taken_of, soaked_of}
 use Rattle.infiltration.specs.Depths.{IsRunoffStep, depth_of}
 use Rattle.infiltration.specs.Horton.{IsHortonCurve, IsHortonState, horton_taken_of, rate_of, wet_taken_of, within_volume_of}
-use Rattle.infiltration.specs.Infiltration.{IsMethod, IsStateBy, taken_by}
-use Rattle.infiltration.specs.declared.horton.HortonCurve.{HortonCurve}
-use Rattle.infiltration.specs.declared.method.Method.{Method}
-use Rattle.infiltration.specs.declared.method.Method.TheVariants.{Horton as HortonOf, Number as NumberOf}
-use Rattle.infiltration.specs.declared.states.CurveState.{CurveState}
-use Rattle.infiltration.specs.declared.states.HortonState.{HortonState}
+use Rattle.infiltration.specs.Infiltration.{IsInfil, IsStateUpTo, taken_by, taken_of}
+use Rattle.net_types.specs.declared.hydrology.Infil.{Infil}
+use Rattle.net_types.specs.declared.hydrology.Infil.TheVariants.{Horton as HortonBy, Number as NumberBy}
 use Rattle.infiltration.specs.declared.states.InfilState.{InfilState}
 use Rattle.infiltration.specs.declared.states.InfilState.TheVariants.{Horton as HortonAt, Number as NumberAt}
 use Rattle.infiltration.proofs.CurveLemmas.{soaked_more}
@@ -30,11 +27,8 @@ use Rattle.net_types.specs.declared.hydrology.Sub.{Sub}
 use Rattle.net_types.specs.declared.hydrology.SubAreas.{SubAreas}
 use Rattle.runoff.specs.Overland.{IsCover, IsPlane, depth_after, left_of, outflow_of, runoff_of, substep_of, substeps}
 use Rattle.runoff.specs.RunoffStep.{subarea_step_of, volume_of}
+use Rattle.runoff.specs.declared.states.SubStep.{SubStep}
 use Rattle.runoff.specs.Subareas.{bare_of, paved_of, pervious_of, plane_of, subareas_or}
-use Rattle.runoff.specs.declared.overland.Cover.{Cover}
-use Rattle.runoff.specs.declared.overland.Plane.{Plane}
-use Rattle.runoff.specs.declared.subarea_step.SubareaStep.{SubareaStep}
-use Rattle.runoff.specs.declared.subareas.Subarea.{Subarea}
 use Rattle.runoff.proofs.OverlandLemmas.{breadth-between, outflow-between, slope_root-between}
 use Rattle.runoff.proofs.VolumeLemmas.{part-between}
 
@@ -54,7 +48,7 @@ in_volume true volume x y available e h k =
     record { from = omega (arith, ints, clamps, h.from, least); to = omega (arith, ints, clamps, h.to) }
 in_volume false volume x y available e h k = h
 
-wet_between : (most : ℤ) (curve : HortonCurve) (above available ms : ℤ) → IsHortonCurve curve → IsHortonState most curve (record { above = above }) → IsRunoffStep ms → pos 0 ≤ℤ available
+wet_between : (most : ℤ) (curve : _) (above available ms : ℤ) → IsHortonCurve curve → IsHortonState most curve (record { above = above }) → IsRunoffStep ms → pos 0 ≤ℤ available
     → IsBetween (pos 0) (wet_taken_of curve above available ms) available
 unfolding wet_taken_of within_volume_of
 wet_between most curve above available ms h k t a =
@@ -67,22 +61,22 @@ wet_between most curve above available ms h k t a =
     (record { from = omega (arith, ints, clamps, depth.from, a); to = omega (arith, ints, clamps) })
     (λ v. omega (arith, ints, least.from, k.held v))
 
-rain_between : (most cn6 : ℤ) (s : CurveState) (rain available : ℤ) → IsCurveState most cn6 s → pos 0 ≤ℤ rain → pos 0 ≤ℤ available
+rain_between : (most cn6 : ℤ) (s : _) (rain available : ℤ) → IsCurveState most cn6 s → pos 0 ≤ℤ rain → pos 0 ≤ℤ available
     → IsBetween (pos 0) (rain_taken_of s rain available) available
 unfolding rain_taken_of
 rain_between most cn6 s rain available h r a =
     let more = soaked_more s.rain rain s.event_room h.rain.from r h.event_room.from in
     record { from = omega (arith, ints, clamps, more, h.taken.to, a); to = omega (arith, ints, clamps) }
 
-pub taken_between : (most : ℤ) (m : Method) (s : InfilState) (rain available ms : ℤ) → IsMethod m → IsStateBy most m s → IsRunoffStep ms → pos 0 ≤ℤ rain → pos 0 ≤ℤ available
-    → IsBetween (pos 0) (taken_by m s rain available ms) available
+pub taken_between : (most : ℤ) (infil : Infil) (s : InfilState) (rain available ms : ℤ) → IsInfil infil → IsStateUpTo most infil s → IsRunoffStep ms → pos 0 ≤ℤ rain → pos 0 ≤ℤ available
+    → IsBetween (pos 0) (taken_of infil s rain available ms) available
 unfolding taken_by
-taken_between most (HortonOf curve) (HortonAt s) rain available ms h k t r a =
-    either (int_lt (pos 0) available) (wet_between most curve s.above available ms h k t a) (nothing_taken a)
-taken_between most (HortonOf curve) (NumberAt s) rain available ms h k t r a = absurd k
-taken_between most (NumberOf curve) (HortonAt s) rain available ms h k t r a = absurd k
-taken_between most (NumberOf curve) (NumberAt s) rain available ms h k t r a =
-    either (int_lt (pos 0) rain) (rain_between most curve.cn6 s rain available k r a) (nothing_taken a)
+taken_between most (HortonBy max min decay6 dry volume) (HortonAt s) rain available ms h k t r a =
+    either (int_lt (pos 0) available) (wet_between most _ s.above available ms h k t a) (nothing_taken a)
+taken_between most (HortonBy max min decay6 dry volume) (NumberAt s) rain available ms h k t r a = absurd k
+taken_between most (NumberBy cn6 dry) (HortonAt s) rain available ms h k t r a = absurd k
+taken_between most (NumberBy cn6 dry) (NumberAt s) rain available ms h k t r a =
+    either (int_lt (pos 0) rain) (rain_between most cn6 s rain available k r a) (nothing_taken a)
 
 -- ---- what is left and what ran off is what there was
 record Drained (depth left runoff : ℤ) : Type 0 where
@@ -91,7 +85,7 @@ record Drained (depth left runoff : ℤ) : Type 0 where
   runoff_from : pos 0 ≤ℤ runoff
   whole : left +ℤ runoff ≡ depth
 
-drained_some : (plane : Plane) (cover : Cover) (part depth : ℤ) → IsPlane plane → IsCover cover → IsBetween (pos 0) part (pos 450_000) → pos 0 ≤ℤ depth → (k : ℕ) (ms : ℤ) → part ≡ substep_of ms
+drained_some : (plane : _) (cover : _) (part depth : ℤ) → IsPlane plane → IsCover cover → IsBetween (pos 0) part (pos 450_000) → pos 0 ≤ℤ depth → (k : ℕ) (ms : ℤ) → part ≡ substep_of ms
     → Drained depth (depth_after plane cover ms depth k) (sum_below (λ j. outflow_of plane cover (substep_of ms) (depth_after plane cover ms depth j)) k)
 drained_some plane cover part depth p c t d zero ms e = record { left_from = d; left_to = omega (arith, ints); runoff_from = omega (arith, ints); whole = omega (arith, ints) }
 drained_some plane cover part depth p c t d (suc k) ms e =
@@ -108,7 +102,7 @@ substep_between : (ms : ℤ) → IsRunoffStep ms → IsBetween (pos 0) (substep_
 unfolding substep_of
 substep_between ms t = record { from = omega (arith, ints); to = omega (arith, ints, t.from, t.to) }
 
-drained : (plane : Plane) (cover : Cover) (ms depth : ℤ) → IsPlane plane → IsCover cover → IsRunoffStep ms → pos 0 ≤ℤ depth → Drained depth (left_of plane cover ms depth) (runoff_of plane cover ms depth)
+drained : (plane : _) (cover : _) (ms depth : ℤ) → IsPlane plane → IsCover cover → IsRunoffStep ms → pos 0 ≤ℤ depth → Drained depth (left_of plane cover ms depth) (runoff_of plane cover ms depth)
 unfolding left_of runoff_of
 drained plane cover ms depth p c t d = drained_some plane cover (substep_of ms) depth p c (substep_between ms t) d substeps ms refl
 
@@ -125,18 +119,18 @@ volume_size area depth w =
     (IsNearest-quo_of (area *ℤ depth) (pos 1_000_000) (lt_number tt)).near (omega (arith, size, most))
 
 -- ---- a step of a subarea: what it takes of the water that stands there and of the rain
-pub record MovesLittle (depth : ℤ) (step : SubareaStep) : Type 0 where
-  pub left : pos 0 ≤ℤ step.depth
-  pub rain : unsigned_abs step.volumes.rain ≤ 300_000_000_000_000_000_001
-  pub moved : unsigned_abs step.volumes.infil + unsigned_abs step.volumes.runoff + 30_000_000_000 * unsigned_abs step.depth
+pub record MovesLittle (depth after : ℤ) (volumes : SubStep) : Type 0 where
+  pub left : pos 0 ≤ℤ after
+  pub rain : unsigned_abs volumes.rain ≤ 300_000_000_000_000_000_001
+  pub moved : unsigned_abs volumes.infil + unsigned_abs volumes.runoff + 30_000_000_000 * unsigned_abs after
       ≤ 30_000_000_000 * unsigned_abs depth + 300_000_000_000_000_000_002
 
 sizes : (depth rain taken left runoff : ℤ) → IsBetween (pos 0) rain (pos (10 ^ 10)) → pos 0 ≤ℤ depth → pos 0 ≤ℤ taken → Drained (depth +ℤ rain -ℤ taken) left runoff
     → unsigned_abs taken + unsigned_abs runoff + unsigned_abs left ≤ unsigned_abs depth + 10_000_000_000
 sizes depth rain taken left runoff r d t w = omega (arith, ints, r.to, d, t, w.left_from, w.runoff_from, w.whole)
 
-pub subarea_moves : (plane : Plane) (subarea : Subarea) (rain depth taken ms : ℤ) → IsPlane plane → IsCover subarea.cover → IsWithin (3 * 10 ^ 16) subarea.area → IsRunoffStep ms
-    → IsBetween (pos 0) rain (pos (10 ^ 10)) → pos 0 ≤ℤ depth → IsBetween (pos 0) taken (depth +ℤ rain) → MovesLittle depth (subarea_step_of plane subarea rain depth taken ms)
+pub subarea_moves : (plane : _) (subarea : _) (rain depth taken ms : ℤ) → IsPlane plane → IsCover subarea.cover → IsWithin (3 * 10 ^ 16) subarea.area → IsRunoffStep ms
+    → IsBetween (pos 0) rain (pos (10 ^ 10)) → pos 0 ≤ℤ depth → IsBetween (pos 0) taken (depth +ℤ rain) → MovesLittle depth (subarea_step_of plane subarea rain depth taken ms).depth (subarea_step_of plane subarea rain depth taken ms).volumes
 unfolding subarea_step_of
 subarea_moves plane subarea rain depth taken ms p c a t r d k =
     let filled = depth +ℤ rain -ℤ taken in

@@ -22,18 +22,18 @@ put_none held faults project k none = record {
   kept = refl;
 }
 
-pub put_next : {held₀ held₁ held₂ : Option (List ℕ)} {faults₀ faults₁ faults₂ : Faults} {project₀ project new : Project} {k next : ℕ} → HasPut held₀ held₁ faults₀ faults₁ project₀ project k
+pub put_next : (held₀ held₁ held₂ : Option (List ℕ)) {faults₀ faults₁ faults₂ : Faults} {project₀ project new : Project} {k next : ℕ} → HasPut held₀ held₁ faults₀ faults₁ project₀ project k
     → new ≡ project → next ≡ k + 1 → Appends held₁ held₂ (own_line project (k + 1)) → HasNotFailed faults₁ faults₂ → HasPut held₀ held₂ faults₀ faults₂ project₀ new next
-put_next {held₀} {held₁} {held₂} {faults₀} {faults₁} {faults₂} {project₀} {project} {new} {k} {next} put same count line kept = record {
+put_next held₀ held₁ held₂ {faults₀} {faults₁} {faults₂} {project₀} {project} {new} {k} {next} put same count line kept = record {
   same = same ∙ put.same;
   front = rw (count, lines_next project₀ k) (Appends-trans held₀ held₁ held₂ (lines_until project₀ k) (own_line project₀ (k + 1)) put.front (rw put.same at line));
   kept = kept ∙ put.kept;
 }
 
 -- a put that fails in a line
-pub put_fails : {held₀ held₁ held₂ : Option (List ℕ)} {faults₀ faults₁ : Faults} {project₀ project : Project} {k : ℕ} (all : ℕ) → HasPut held₀ held₁ faults₀ faults₁ project₀ project k
+pub put_fails : (held₀ held₁ held₂ : Option (List ℕ)) {faults₀ faults₁ : Faults} {project₀ project : Project} {k : ℕ} (all : ℕ) → HasPut held₀ held₁ faults₀ faults₁ project₀ project k
     → k + 1 ≤ all → AppendsPrefix held₁ held₂ (own_line project (k + 1)) → AppendsPrefix held₀ held₂ (lines_until project₀ all)
-put_fails {held₀} {held₁} {held₂} {faults₀} {faults₁} {project₀} {project} {k} all put within line =
+put_fails held₀ held₁ held₂ {faults₀} {faults₁} {project₀} {project} {k} all put within line =
     prefix_later project₀ held₀ held₂ (k + 1) all within
     (subst (AppendsPrefix held₀ held₂) (sym (lines_next project₀ k))
     (prefix_after held₀ held₁ held₂ (lines_until project₀ k) (own_line project₀ (k + 1)) put.front (rw put.same at line)))

@@ -16,6 +16,9 @@ use Rattle.link_eval.specs.declared.hydraulics.Hydraulics.{Hydraulics}
 use Rattle.runoff_states.specs.RunoffTimes.{steps_done}
 use Rattle.runoff_states.proofs.TimeLemmas.{count_done}
 use Rattle.run_engine.specs.Kept.{AreRunoffsOf, IsKept}
+use Rattle.fixed_num.specs.Ranges.{IsBetween}
+use Rattle.run_engine.specs.Laterals.{IsRunoffAt}
+use Rattle.run_engine.specs.Times.{IsRunStep}
 use Rattle.run_engine.specs.declared.kept.Kept.{Kept}
 use Rattle.run_engine.proofs.RunLemmas.{run_options}
 use Rattle.run_engine.specs.Results.{runoff_after, runoff_steps, runoffs_done, sub_summaries, total_runoff}
@@ -24,7 +27,7 @@ use Rattle.run_engine.proofs.RunoffLemmas.{IsLastAt, run_wet}
 
 -- ---- how many steps there are
 -- steps of at least a second each
-thousands : (n : ℕ) (ms : ℤ) → pos 1_000 ≤ℤ ms → pos (1_000 * n) ≤ℤ pos n *ℤ ms
+thousands : (n : ℕ) (ms : ℤ) → pos 1_000 ≤ℤ ms → pos (1_000 * n) ≤ℤ (pos n *ℤ ms)
 thousands zero ms h = omega (arith, ints)
 thousands (suc n) ms h = omega (arith, ints, thousands n ms h, next n ms, h)
   where
@@ -44,16 +47,22 @@ few_done {project} {h} {kept} is =
     let last = (run_options project is.ready).duration.to in
     omega (arith, ints, thousands (steps_done project.options.wet_ms kept.moment) project.options.wet_ms (run_wet project is.ready).from, done.ended, between.to, last)
 
+-- at the moment before a step
+pub earlier_here : {project : Project} {h : Hydraulics} {kept : Kept} (finish dt : ℤ) → IsKept project h kept → finish ≡ kept.moment +ℤ dt → IsRunStep project.options finish dt
+    → (earlier : ℤ) × IsBetween (pos 0) earlier finish × IsRunoffAt project earlier kept.runoff × AreRunoffsOf project (steps_done project.options.wet_ms earlier) kept.subs
+earlier_here {project} {h} {kept} finish dt is e step =
+    (kept.moment, record { from = is.clock.range.between.from; to = omega (arith, ints, e, step.length_in.least) }, is.runoff, is.rained)
+
 -- ---- what a step tells
-pub steps_are : {project : Project} {steps : ℕ} {runoff : Runoff} → TellsStep project (start_state project) steps runoff
+pub steps_are : (project : Project) (steps : ℕ) (runoff : Runoff) → TellsStep project (start_state project) steps runoff
     → length runoff.steps ≡ length project.subs → runoff.steps ≡ runoff_steps project steps
-steps_are {project} {steps} {runoff} told places =
+steps_are project steps runoff told places =
     fill_by_all (runoff_step project (start_state project) steps) runoff.steps (length project.subs)
     (record { rain = pos 0; infil = pos 0; runoff = pos 0; stored = pos 0 }) places told
 
-pub states_are : {project : Project} {steps : ℕ} {runoff : Runoff}
+pub states_are : (project : Project) (steps : ℕ) (runoff : Runoff)
     → IsRunoffAfter project (start_state project) (pos 0) (suc steps) runoff → runoff.states ≡ runoff_after project steps
-states_are {project} {steps} {runoff} after =
+states_are project steps runoff after =
     fill_by_all (runoff_state project (start_state project) (suc steps)) runoff.states (length project.subs) _
     after.states.each_sub after.states.is
 
@@ -94,8 +103,8 @@ runoffs_next {project} {steps} {runoff} {old} {new} are after told more small co
   steps_are = omega (arith, counted, are.steps_are);
   places = places ∙ are.places;
   summaries = more (runoff_steps project) (runoff_after project) are.summaries
-      (ap (runoff_steps project) are.steps_are ∙ sym (steps_are told after.places))
-      (ap (runoff_after project) are.steps_are ∙ sym (states_are after));
+      (ap (runoff_steps project) are.steps_are ∙ sym (steps_are project steps runoff told after.places))
+      (ap (runoff_after project) are.steps_are ∙ sym (states_are project steps runoff after));
 }
 
 pub subs_are : (project : Project) (k : ℕ) (runoffs : Runoffs) → AreRunoffsOf project (runoffs_done project k) runoffs → runoffs.subs ≡ sub_summaries project k

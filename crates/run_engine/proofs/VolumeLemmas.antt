@@ -11,9 +11,9 @@ use Rattle.fixed_num.specs.declared.constants.TheConstants.{RECORD_LIMIT}
 use Rattle.fixed_num.proofs.Bounds.{between_cut}
 use Rattle.fixed_num.proofs.SignedSums.{sum_same}
 use Rattle.infiltration.specs.Depths.{IsRunoffStep, depth_of}
-use Rattle.infiltration.specs.Infiltration.{IsMethod, IsStateBy, method_of, start_by}
-use Rattle.infiltration.specs.declared.method.Method.{Method}
-use Rattle.infiltration.specs.declared.method.Method.TheVariants.{Horton as HortonOf, Number as NumberOf}
+use Rattle.infiltration.specs.Infiltration.{IsInfil, IsStateUpTo, method_of, start_by, start_of}
+use Rattle.net_types.specs.declared.hydrology.Infil.{Infil}
+use Rattle.net_types.specs.declared.hydrology.Infil.TheVariants.{Horton as HortonBy, Number as NumberBy}
 use Rattle.infiltration.proofs.DepthLemmas.{depth_between, depth_slow}
 use Rattle.infiltration.proofs.StateLaws.{growth, start_state as number_start_state}
 use Rattle.net_types.specs.Ranges.{SubInRange}
@@ -41,7 +41,7 @@ pub record IsWet (sub : Sub) (s : SubState) : Type 0 where
   pub bare : pos 0 ≤ℤ number s.depths 1
   pub paved : pos 0 ≤ℤ number s.depths 2
   pub most : ℤ
-  pub infil : IsStateBy most (method_of (infil_or sub.infil)) s.infil
+  pub infil : IsStateUpTo most (infil_or sub.infil) s.infil
 
 -- all water on it, in nm
 abbrev water : SubState → ℕ
@@ -59,7 +59,7 @@ three_rains a b c p q r = omega (arith, ints, p, q, r)
 size_sum : (a b c : ℤ) → unsigned_abs (a +ℤ b +ℤ c) ≤ unsigned_abs a + unsigned_abs b + unsigned_abs c
 size_sum a b c = omega (arith, ints)
 
-module _ (sub : Sub) (range : SubInRange sub) (soil : IsMethod (method_of (infil_or sub.infil))) (s : SubState) (wet : IsWet sub s) (rate ms : ℤ) (r : IsRate rate) (t : IsRunoffStep ms) where
+module _ (sub : Sub) (range : SubInRange sub) (soil : IsInfil (infil_or sub.infil)) (s : SubState) (wet : IsWet sub s) (rate ms : ℤ) (r : IsRate rate) (t : IsRunoffStep ms) where
   rain_in : IsBetween (pos 0) (depth_of rate ms) (pos (10 ^ 10))
   rain_in = depth_between r t
 
@@ -68,20 +68,20 @@ module _ (sub : Sub) (range : SubInRange sub) (soil : IsMethod (method_of (infil
 
   soaked_in : IsBetween (pos 0) (soaked_of sub s rate ms) (number s.depths 0 +ℤ depth_of rate ms)
   unfolding soaked_of
-  soaked_in = taken_between wet.most (method_of (infil_or sub.infil)) s.infil (depth_of rate ms) (number s.depths 0 +ℤ depth_of rate ms) ms soil wet.infil t rain_in.from filled_from
+  soaked_in = taken_between wet.most (infil_or sub.infil) s.infil (depth_of rate ms) (number s.depths 0 +ℤ depth_of rate ms) ms soil wet.infil t rain_in.from filled_from
 
-  pervious_moves : MovesLittle (number s.depths 0) (pervious_step_of sub s rate ms)
+  pervious_moves : MovesLittle (number s.depths 0) (pervious_step_of sub s rate ms).depth (pervious_step_of sub s rate ms).volumes
   unfolding pervious_step_of
   pervious_moves = subarea_moves (plane_of sub) (pervious_of sub) (depth_of rate ms) (number s.depths 0) (soaked_of sub s rate ms) ms
       (plane_in sub range) (pervious_cover sub range) (pervious_within sub range) t rain_in wet.pervious soaked_in
 
-  bare_moves : MovesLittle (number s.depths 1) (bare_step_of sub s rate ms)
+  bare_moves : MovesLittle (number s.depths 1) (bare_step_of sub s rate ms).depth (bare_step_of sub s rate ms).volumes
   unfolding bare_step_of
   bare_moves = subarea_moves (plane_of sub) (bare_of sub) (depth_of rate ms) (number s.depths 1) (pos 0) ms
       (plane_in sub range) (bare_cover sub range) (bare_within sub range) t rain_in wet.bare
       (record { from = omega (arith, ints); to = omega (arith, ints, wet.bare, rain_in.from) })
 
-  paved_moves : MovesLittle (number s.depths 2) (paved_step_of sub s rate ms)
+  paved_moves : MovesLittle (number s.depths 2) (paved_step_of sub s rate ms).depth (paved_step_of sub s rate ms).volumes
   unfolding paved_step_of
   paved_moves = subarea_moves (plane_of sub) (paved_of sub) (depth_of rate ms) (number s.depths 2) (pos 0) ms
       (plane_in sub range) (paved_cover sub range) (paved_within sub range) t rain_in wet.paved
@@ -114,19 +114,19 @@ module _ (sub : Sub) (range : SubInRange sub) (soil : IsMethod (method_of (infil
   }
 
 -- ---- the beginning
-start_in : (m : Method) → IsMethod m → IsStateBy (pos 0) m (start_by m)
+start_in : (infil : Infil) → IsInfil infil → IsStateUpTo (pos 0) infil (start_of infil)
 unfolding start_by
-start_in (HortonOf curve) h = record { above = record { from = omega (arith, ints); to = omega (arith, ints) }; held = λ v. omega (arith, ints, v) }
-start_in (NumberOf curve) h = number_start_state curve h.0
+start_in (HortonBy max min decay6 dry volume) h = record { above = record { from = omega (arith, ints); to = omega (arith, ints) }; held = λ v. omega (arith, ints, v) }
+start_in (NumberBy cn6 dry) h = number_start_state _ h.0
 
-start_wet : (sub : Sub) → IsMethod (method_of (infil_or sub.infil)) → IsWet sub (start_of_sub sub)
+start_wet : (sub : Sub) → IsInfil (infil_or sub.infil) → IsWet sub (start_of_sub sub)
 unfolding start_of_sub
 start_wet sub soil = record {
   pervious = omega (arith, ints);
   bare = omega (arith, ints);
   paved = omega (arith, ints);
   most = pos 0;
-  infil = start_in (method_of (infil_or sub.infil)) soil;
+  infil = start_in (infil_or sub.infil) soil;
 }
 
 start_dry : (sub : Sub) → water (start_of_sub sub) ≡ 0
@@ -155,8 +155,8 @@ module _ (project : Project) (r : IsFaultless project) (k : ℕ) (inside : k < l
   range_k : SubInRange (sub_at project.subs k)
   range_k = All-get_or SubInRange project.subs k _ inside r.sound.ranges.subs
 
-  soil_k : IsMethod (method_of (infil_or (sub_at project.subs k).infil))
-  soil_k = All-get_or (λ (s : Sub). IsMethod (method_of (infil_or s.infil))) project.subs k _ inside (run_soil project r)
+  soil_k : IsInfil (infil_or (sub_at project.subs k).infil)
+  soil_k = All-get_or (λ (s : Sub). IsInfil (infil_or s.infil)) project.subs k _ inside (run_soil project r)
 
   wet_k : (n : ℕ) → IsWet (sub_at project.subs k) (runoff_state project (start_state project) n k)
   wet_k zero = start_wet (sub_at project.subs k) soil_k

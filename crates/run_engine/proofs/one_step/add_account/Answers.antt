@@ -15,8 +15,8 @@ pub account_step-account-requires-clause-floods : goal.account_step-account-requ
 account_step-account-requires-clause-floods c =
     c.requires.floods.same ∙ floods_more c.args.project.now c.args.k ∙ rw (c.requires.law, c.requires.next.same) refl
 
-pub add-2-requires-clause-few : goal.add-2-requires-clause-few
-add-2-requires-clause-few c = omega (arith, c.requires.since.steps, c.requires.few)
+pub add-requires-2-clause-few : goal.add-requires-2-clause-few
+add-requires-2-clause-few c = omega (arith, c.requires.since.steps, c.requires.few)
 
 pub returns-clause-total : goal.returns-clause-total
 returns-clause-total c =

@@ -7,9 +7,10 @@ use Rattle.run_engine.specs.States.{project_law}
 use Rattle.run_engine.specs.StepLines.{line_before}
 use Rattle.runoff_states.specs.RunoffTimes.{steps_done}
 use Rattle.run_engine.specs.Laterals.{IsRunoffAt}
-use Rattle.run_engine.proofs.InputLemmas.{earlier_of, ends_by, run_within, settings_begin}
+use Rattle.run_engine.proofs.InputLemmas.{ends_by, run_within, settings_begin}
 use Rattle.run_engine.proofs.KeptLemmas.{clock_next, finish_here, length_here}
 use Rattle.run_engine.proofs.OutfallLemmas.{length_next}
+use Rattle.run_engine.proofs.SubLemmas.{earlier_here}
 use Rattle.run_engine.proofs.SumsLemmas.{floods_count}
 use Rattle.run_engine.proofs.RunLemmas.{run_moment, run_options}
 use Rattle.run_engine.proofs.one_step.one_step.Goals as goal
@@ -38,9 +39,9 @@ advance_runoff-requires-clause-earlier c =
     let finish : FitsSigned w64 c.next_span-span.result.finish = search rules in
     let ends = simp (to_z-of_z, moment, least) at c.next_span-span.ensures.finish in
     let lasts = simp (to_z-of_z, moment, least) at c.next_span-span.ensures.length in
-    let before = earlier_of c.next_span-span.result.finish c.next_span-span.result.length c.requires.kept
-    (ends ∙ ap (λ (d : ℤ). c.args.kept.now.moment +ℤ d) (sym lasts)) c.next_span-span.ensures.range in
-    simp (to_z-of_z, finish) (before.0, before.1, before.2, c.requires.kept.rained)
+    simp (to_z-of_z, finish)
+    (earlier_here c.next_span-span.result.finish c.next_span-span.result.length c.requires.kept
+    (ends ∙ ap (λ (d : ℤ). c.args.kept.now.moment +ℤ d) (sym lasts)) c.next_span-span.ensures.range)
 
 pub find_laterals-requires-clause-calendar : goal.find_laterals-requires-clause-calendar
 find_laterals-requires-clause-calendar c =
@@ -141,7 +142,7 @@ returns-clause-kept c =
       setting_room = c.find_settings.ensures.places;
       flood_room = ap length floods ∙ ap length c.add_floods.ensures.floods.same ∙ floods_count project (c.args.kept.now.counts.steps + 1);
       summed = subst (λ (k : ℕ). AreSumsOf project (k + 1) c.add_state.new.sums) steps c.add_state.ensures.sums;
-      loaded = subst (λ (k : ℕ). AreLoadsAt project (k + 1) c.add_load.new.outfalls) steps c.add_load.ensures;
+      loaded = subst (λ (k : ℕ). AreLoadsAt project (k + 1) c.add_load.new.outfalls) steps c.add_load.ensures.outfalls;
       rained =
           subst (λ (m : ℤ). AreRunoffsOf project (steps_done project.options.wet_ms m) c.advance_runoff.new.subs) (sym (to_z-of_z w64 c.next_span-span.result.finish finish))
           (simp (to_z-of_z, finish) at c.advance_runoff.ensures.summaries);

@@ -12,13 +12,13 @@ pub loop-self-init : goal.loop-self-init
 loop-self-init g c = put_none _ _ c.args.self.now.project c.args.self.now.counts.steps (steps_at c.args.self.now 0 c.requires)
 
 pub loop-self-preserved : goal.loop-self-preserved
-loop-self-preserved g c = put_next c.loop-self.invariant c.in-Ok.ensures.project c.in-Ok.ensures.steps c.in-Ok.ensures.bytes c.in-Ok.ensures.cause.kept
+loop-self-preserved g c = put_next _ _ _ c.loop-self.invariant c.in-Ok.ensures.project c.in-Ok.ensures.steps c.in-Ok.ensures.bytes c.in-Ok.ensures.cause.kept
 
 pub returns-in-Err-clause-bytes : goal.returns-in-Err-clause-bytes
 returns-in-Err-clause-bytes g c =
     let within = c.in-Err.ensures.at.within in
     let all = ap steps_of (c.in-Err.ensures.project ∙ c.loop-self.invariant.same) in
-    put_fails (steps_of c.args.self.now.project) c.loop-self.invariant (omega (arith, within, all, c.in-Err.ensures.steps)) c.in-Err.ensures.bytes
+    put_fails _ _ _ (steps_of c.args.self.now.project) c.loop-self.invariant (omega (arith, within, all, c.in-Err.ensures.steps)) c.in-Err.ensures.bytes
 
 pub returns-clause-bytes : goal.returns-clause-bytes
 returns-clause-bytes g c =
