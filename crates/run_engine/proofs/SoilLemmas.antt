@@ -72,7 +72,7 @@ pub taken_between : (most : ℤ) (infil : Infil) (s : InfilState) (rain availabl
     → IsBetween (pos 0) (taken_of infil s rain available ms) available
 unfolding taken_by
 taken_between most (HortonBy max min decay6 dry volume) (HortonAt s) rain available ms h k t r a =
-    either (int_lt (pos 0) available) (wet_between most _ s.above available ms h k t a) (nothing_taken a)
+    either (int_lt (pos 0) available) (wet_between most (record { max = max; min = min; decay6 = decay6; dry = dry; volume = volume }) s.above available ms h k t a) (nothing_taken a)
 taken_between most (HortonBy max min decay6 dry volume) (NumberAt s) rain available ms h k t r a = absurd k
 taken_between most (NumberBy cn6 dry) (HortonAt s) rain available ms h k t r a = absurd k
 taken_between most (NumberBy cn6 dry) (NumberAt s) rain available ms h k t r a =
@@ -129,16 +129,16 @@ sizes : (depth rain taken left runoff : ℤ) → IsBetween (pos 0) rain (pos (10
     → unsigned_abs taken + unsigned_abs runoff + unsigned_abs left ≤ unsigned_abs depth + 10_000_000_000
 sizes depth rain taken left runoff r d t w = omega (arith, ints, r.to, d, t, w.left_from, w.runoff_from, w.whole)
 
-pub subarea_moves : (plane : _) (subarea : _) (rain depth taken ms : ℤ) → IsPlane plane → IsCover subarea.cover → IsWithin (3 * 10 ^ 16) subarea.area → IsRunoffStep ms
-    → IsBetween (pos 0) rain (pos (10 ^ 10)) → pos 0 ≤ℤ depth → IsBetween (pos 0) taken (depth +ℤ rain) → MovesLittle depth (subarea_step_of plane subarea rain depth taken ms).depth (subarea_step_of plane subarea rain depth taken ms).volumes
+pub subarea_moves : (plane : _) (area : ℤ) (cover : _) (rain depth taken ms : ℤ) → IsPlane plane → IsCover cover → IsWithin (3 * 10 ^ 16) area → IsRunoffStep ms
+    → IsBetween (pos 0) rain (pos (10 ^ 10)) → pos 0 ≤ℤ depth → IsBetween (pos 0) taken (depth +ℤ rain) → MovesLittle depth (subarea_step_of plane (record { area = area; cover = cover }) rain depth taken ms).depth (subarea_step_of plane (record { area = area; cover = cover }) rain depth taken ms).volumes
 unfolding subarea_step_of
-subarea_moves plane subarea rain depth taken ms p c a t r d k =
+subarea_moves plane area cover rain depth taken ms p c a t r d k =
     let filled = depth +ℤ rain -ℤ taken in
-    let water = drained plane subarea.cover ms filled p c t (omega (arith, ints, k.to)) in
-    let all = sizes depth rain taken (left_of plane subarea.cover ms filled) (runoff_of plane subarea.cover ms filled) r d k.from water in
-    let soil = volume_size subarea.area taken a in
-    let off = volume_size subarea.area (runoff_of plane subarea.cover ms filled) a in
-    let fell = volume_size subarea.area rain a in
+    let water = drained plane cover ms filled p c t (omega (arith, ints, k.to)) in
+    let all = sizes depth rain taken (left_of plane cover ms filled) (runoff_of plane cover ms filled) r d k.from water in
+    let soil = volume_size area taken a in
+    let off = volume_size area (runoff_of plane cover ms filled) a in
+    let fell = volume_size area rain a in
     record {
       left = water.left_from;
       rain = omega (arith, ints, fell, r.from, r.to);

@@ -72,18 +72,18 @@ module _ (sub : Sub) (range : SubInRange sub) (soil : IsInfil (infil_or sub.infi
 
   pervious_moves : MovesLittle (number s.depths 0) (pervious_step_of sub s rate ms).depth (pervious_step_of sub s rate ms).volumes
   unfolding pervious_step_of
-  pervious_moves = subarea_moves (plane_of sub) (pervious_of sub) (depth_of rate ms) (number s.depths 0) (soaked_of sub s rate ms) ms
+  pervious_moves = subarea_moves (plane_of sub) (pervious_of sub).area (pervious_of sub).cover (depth_of rate ms) (number s.depths 0) (soaked_of sub s rate ms) ms
       (plane_in sub range) (pervious_cover sub range) (pervious_within sub range) t rain_in wet.pervious soaked_in
 
   bare_moves : MovesLittle (number s.depths 1) (bare_step_of sub s rate ms).depth (bare_step_of sub s rate ms).volumes
   unfolding bare_step_of
-  bare_moves = subarea_moves (plane_of sub) (bare_of sub) (depth_of rate ms) (number s.depths 1) (pos 0) ms
+  bare_moves = subarea_moves (plane_of sub) (bare_of sub).area (bare_of sub).cover (depth_of rate ms) (number s.depths 1) (pos 0) ms
       (plane_in sub range) (bare_cover sub range) (bare_within sub range) t rain_in wet.bare
       (record { from = omega (arith, ints); to = omega (arith, ints, wet.bare, rain_in.from) })
 
   paved_moves : MovesLittle (number s.depths 2) (paved_step_of sub s rate ms).depth (paved_step_of sub s rate ms).volumes
   unfolding paved_step_of
-  paved_moves = subarea_moves (plane_of sub) (paved_of sub) (depth_of rate ms) (number s.depths 2) (pos 0) ms
+  paved_moves = subarea_moves (plane_of sub) (paved_of sub).area (paved_of sub).cover (depth_of rate ms) (number s.depths 2) (pos 0) ms
       (plane_in sub range) (paved_cover sub range) (paved_within sub range) t rain_in wet.paved
       (record { from = omega (arith, ints); to = omega (arith, ints, wet.paved, rain_in.from) })
 

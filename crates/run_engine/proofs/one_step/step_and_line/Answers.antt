@@ -42,7 +42,7 @@ returns-clause-since g c =
     let now = rw c.one_step.ensures.steps at c.one_step.ensures.kept.clock.same in
     let line = line_reached project c.args.kept.now.counts.steps c.requires.kept.clock.same now tested ∙ c.if-not-reaches_report.false in
     let k = c.args.kept.now.counts.steps + 1 in
-    rw c.one_step.ensures.steps (from_line project k c.clear.new.since line c.clear.ensures.value)
+    rw c.one_step.ensures.steps (from_line project k _ line c.clear.ensures.value)
 
 pub returns-clause-bytes : goal.returns-clause-bytes
 returns-clause-bytes g c =
