@@ -57,7 +57,7 @@ wet_between most curve above available ms h k t a =
     let high = h.max.to in
     let depth = depth_between {rate = rate_of curve above} {ms = ms} (record { from = omega (arith, ints, rate.from, low); to = omega (arith, ints, rate.to, high) }) t in
     let least = depth_between {rate = curve.min} {ms = ms} h.min t in
-    in_volume (int_lt (pos 0) curve.volume) curve.volume _ _ available refl
+    in_volume (int_lt (pos 0) curve.volume) curve.volume (int_min available (depth_of (rate_of curve above) ms)) (depth_of curve.min ms +ℤ curve.volume -ℤ above) available refl
     (record { from = omega (arith, ints, clamps, depth.from, a); to = omega (arith, ints, clamps) })
     (λ v. omega (arith, ints, least.from, k.held v))
 

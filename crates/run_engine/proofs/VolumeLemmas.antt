@@ -117,7 +117,7 @@ module _ (sub : Sub) (range : SubInRange sub) (soil : IsInfil (infil_or sub.infi
 start_in : (infil : Infil) → IsInfil infil → IsStateUpTo (pos 0) infil (start_of infil)
 unfolding start_by
 start_in (HortonBy max min decay6 dry volume) h = record { above = record { from = omega (arith, ints); to = omega (arith, ints) }; held = λ v. omega (arith, ints, v) }
-start_in (NumberBy cn6 dry) h = number_start_state _ h.0
+start_in (NumberBy cn6 dry) h = number_start_state (record { cn6 = cn6; dry = dry }) h.0
 
 start_wet : (sub : Sub) → IsInfil (infil_or sub.infil) → IsWet sub (start_of_sub sub)
 unfolding start_of_sub
