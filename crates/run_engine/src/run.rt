@@ -9,7 +9,7 @@ ghost use Rattle.run_engine.specs.Report.{front_after, tail_after};
 ghost use Rattle.run_engine.specs.States.{steps_of};
 ghost use Rattle.run_engine.specs.StepLines.{last_line, lines_until, own_line};
 
-use crate::begin::{open_outfalls, open_room, open_sums, zeros};
+use crate::begin::{open_room, open_summaries, zeros};
 use crate::kept::Kept;
 use crate::laterals::find_laterals;
 use crate::one_step::step_and_line;
@@ -24,7 +24,6 @@ use report_writer::RunCounts;
 use runoff_states::Runoff;
 use std::alloc::Global;
 use std::marker::Model;
-use summaries::SubSums;
 use trial_model::Nets;
 
 /// Why a run stopped before its end.
@@ -86,9 +85,7 @@ pub fn open_run(alloc: Global, project: Project) -> Result<Run, OutOfMemory>
     let before = Nets::with_room(alloc, nodes, links)?;
     let room = open_room(alloc, nodes, links)?;
     let floods = zeros(alloc, nodes)?;
-    let sums = open_sums(alloc, &project, &nets, &floods)?;
-    let outfalls = open_outfalls(alloc, &project, &nets)?;
-    let subs = SubSums::with_room(alloc, &project)?;
+    let opened = open_summaries(alloc, &project, &nets, &floods)?;
     let kept = Kept {
         moment: 0,
         nets,
@@ -97,9 +94,9 @@ pub fn open_run(alloc: Global, project: Project) -> Result<Run, OutOfMemory>
         laterals,
         room,
         floods,
-        sums,
-        outfalls,
-        subs,
+        sums: opened.sums,
+        outfalls: opened.outfalls,
+        subs: opened.subs,
         total: RunAccount::new(),
         counts: RunCounts {
             steps: 0,

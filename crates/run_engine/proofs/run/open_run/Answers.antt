@@ -37,20 +37,15 @@ open_state-requires-clause-laterals c =
     ∙ written_whole _ _ (c.find_laterals.auto.laterals ∙ ap length c.as_mut_slice.ensures.value)
     ∙ c.find_laterals.ensures
 
-pub open_sums-requires-clause-now : goal.open_sums-requires-clause-now
-open_sums-requires-clause-now c =
+pub open_summaries-requires-clause-now : goal.open_summaries-requires-clause-now
+open_summaries-requires-clause-now c =
     let good = subst IsGood c.in_ok-law.ensures c.in_ok-law.law.good in
     opening_at c.args.project c.in_ok-nets.nets good (c.requires) c.in_ok-nets.ensures
 
-pub open_sums-requires-clause-floods : goal.open_sums-requires-clause-floods
-open_sums-requires-clause-floods c =
+pub open_summaries-requires-clause-floods : goal.open_summaries-requires-clause-floods
+open_summaries-requires-clause-floods c =
     let zeros = rw c.as_slice.ensures at c.in_ok-floods.ensures in
     opening_floods c.args.project c.in_ok-floods.floods zeros
-
-pub open_outfalls-requires-clause-now : goal.open_outfalls-requires-clause-now
-open_outfalls-requires-clause-now c =
-    let good = subst IsGood c.in_ok-law.ensures c.in_ok-law.law.good in
-    opening_at c.args.project c.in_ok-nets.nets good (c.requires) c.in_ok-nets.ensures
 
 pub invariant_of-result : goal.invariant_of-result
 invariant_of-result c =
@@ -75,9 +70,9 @@ invariant_of-result c =
         settings = rw c.as_slice-2.ensures at c.in_ok-room.ensures.settings;
       };
       flood_room = ap length zeros ∙ length-replicate (length project.nodes) (pos 0);
-      summed = c.in_ok-sums.ensures;
-      loaded = c.in_ok-outfalls.ensures;
-      rained = opened_runoffs project c.requires c.in_ok-subs.subs c.in_ok-subs.ensures.value c.in_ok-subs.ensures.small;
+      summed = c.in_ok-opened.ensures.sums;
+      loaded = c.in_ok-opened.ensures.outfalls;
+      rained = opened_runoffs project c.requires c.in_ok-opened.opened.subs c.in_ok-opened.ensures.subs c.in_ok-opened.ensures.small;
       totalled = record { steps = ap (λ (running : Running). running.steps) c.new.ensures.value; total = c.new.ensures.total (account_at project) };
       counted = counted_none project;
     }, from_start project _ c.new-2.ensures.value)
