@@ -68,8 +68,7 @@ line_law project k r =
     let options = project.options in
     let before = (times project (run_options project r) k).between.from in
     let after = (times project (run_options project r) (k + 1)).between.from in
-    let step = r.sound.options.report_in.from in
-    (
+    let step = r.sound.options.report_in.from in (
       λ line.
           let both = reaches (moment_at project k) (moment_at project (k + 1)) options.report_ms before after step (sym (has_line_next project k) ∙ line) in
           record { multiple = unsigned_abs (moment_at project (k + 1)) / unsigned_abs options.report_ms; after = both.0; reached = both.1 },

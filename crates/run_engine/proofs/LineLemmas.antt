@@ -103,8 +103,7 @@ module _ (project : Project) where
   lines_begin k zero = ([], let e : k + 0 ≡ k = omega arith in ap (lines_until project) e ∙ sym (append-nil (lines_until project k)))
   lines_begin k (suc m) =
       let before = lines_begin k m in
-      let e : k + suc m ≡ k + m + 1 = omega arith in
-      (
+      let e : k + suc m ≡ k + m + 1 = omega arith in (
         before.0 ++ own_line project (k + m + 1),
         ap (lines_until project) e ∙ lines_next (k + m) ∙ ap (λ (l : List ℕ). l ++ own_line project (k + m + 1)) before.1
             ∙ append_assoc (lines_until project k) before.0 (own_line project (k + m + 1)),

@@ -94,11 +94,7 @@ fn open_sums(
 }
 
 // The summaries of outfalls of the opening state, to which no step led.
-fn open_outfalls(
-    alloc: Global,
-    project: &Project,
-    nets: &Nets,
-) -> Result<OutfallSums, OutOfMemory>
+fn open_outfalls(alloc: Global, project: &Project, nets: &Nets) -> Result<OutfallSums, OutOfMemory>
     requires project { IsFaultless project.now }
     requires now { IsStateAt project.now 0 nets.now }
     ensures { IfOk result (λ outfalls. AreLoadsAt project.now 1 outfalls) }

@@ -14,7 +14,9 @@ ghost use Rattle.summaries.specs.Runoffs.{HaveSmallSums};
 use continuity::RunAccount;
 use fault_ports::{Failed, Sink};
 use net_types::{Options, Project, StepAccount};
-use report_writer::{RunCounts, RunFigures, put_head, put_step_line, put_steps_heading, put_whole_tail};
+use report_writer::{
+    RunCounts, RunFigures, put_head, put_step_line, put_steps_heading, put_whole_tail,
+};
 use summaries::{OutfallSums, SubSums, Summaries};
 
 // Puts the head of the report of a project's run, and the heading of its step lines.

@@ -60,9 +60,11 @@ loop-runoff-preserved c =
     let after = c.step.ensures.run _ _ kept.0 kept.1.after in
     let told = c.step.ensures.told _ _ kept.0 kept.1.after in
     let added = rw (c.steps.ensures, c.states.ensures) at c.add_runoff.ensures.summaries in
-    simp (to_z-of_z, c.ranges.moment)
-    (suc kept.0, last_more c.requires.project kept.1 (le_from _ _ (sym due ∙ c.loop-runoff-test.true)) after,
-    runoffs_next kept.2 after told added c.add_runoff.ensures.small c.add_runoff.ensures.steps c.add_runoff.ensures.subs)
+    simp (to_z-of_z, c.ranges.moment) (
+      suc kept.0,
+      last_more c.requires.project kept.1 (le_from _ _ (sym due ∙ c.loop-runoff-test.true)) after,
+      runoffs_next kept.2 after told added c.add_runoff.ensures.small c.add_runoff.ensures.steps c.add_runoff.ensures.subs,
+    )
 
 pub returns-clause-runoff : goal.returns-clause-runoff
 returns-clause-runoff c =
