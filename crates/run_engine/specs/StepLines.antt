@@ -1,5 +1,6 @@
 -- The step lines of a run: which states have one, and what it says (this project's profile).
-use Rattle.std.specs.Prelude.{ℕ, zero, suc, ◌+◌, ◌-◌, ◌/◌, Bool, false, nat_lt, if◌then◌else◌, List, [], ◌++◌, ℤ, pos, ◌*ℤ◌, ◌≤ℤ◌, ◌<ℤ◌}
+use Rattle.std.specs.Prelude.{ℕ, zero, suc, ◌+◌, ◌-◌, ◌/◌, Bool, false, nat_lt, if◌then◌else◌, List, [], ◌++◌}
+use Rattle.std.specs.Prelude.{ℤ, pos, ◌*ℤ◌, ◌≤ℤ◌, ◌<ℤ◌}
 use Rattle.std.specs.Int.RustNames.{unsigned_abs}
 use Rattle.continuity.specs.Sums.{total_of}
 use Rattle.net_types.specs.declared.account.StepAccount.{StepAccount}

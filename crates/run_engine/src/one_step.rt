@@ -39,10 +39,12 @@ pub(crate) fn one_step(
     requires kept { IsKept project.now law.now.hydraulics kept.old }
     requires going { goes_on project.now.options kept.old.moment ≡ true }
     requires few { kept.old.counts.steps < 50_000_000 }
-    requires since { IsTotalFrom project.now (line_before project.now (kept.old.counts.steps + 1)) kept.old.counts.steps since.old }
+    requires since { IsTotalFrom project.now (line_before project.now (kept.old.counts.steps + 1))
+        kept.old.counts.steps since.old }
     ensures kept { IsKept project.now law.now.hydraulics kept.new }
     ensures steps { kept.new.counts.steps ≡ kept.old.counts.steps + 1 }
-    ensures since { IsTotalFrom project.now (line_before project.now kept.new.counts.steps) kept.new.counts.steps since.new }
+    ensures since { IsTotalFrom project.now (line_before project.now kept.new.counts.steps)
+        kept.new.counts.steps since.new }
 {
     let made = kept.counts.steps;
     let span = next_span(&project.options, kept.moment, kept.nets.least);
@@ -104,10 +106,12 @@ pub(crate) fn step_and_line<W: Sink>(
     requires kept { IsKept project.now law.now.hydraulics kept.old }
     requires going { goes_on project.now.options kept.old.moment ≡ true }
     requires few { kept.old.counts.steps < 50_000_000 }
-    requires since { IsTotalFrom project.now (line_before project.now (kept.old.counts.steps + 1)) kept.old.counts.steps since.old }
+    requires since { IsTotalFrom project.now (line_before project.now (kept.old.counts.steps + 1))
+        kept.old.counts.steps since.old }
     ensures kept { IsKept project.now law.now.hydraulics kept.new }
     ensures steps { kept.new.counts.steps ≡ kept.old.counts.steps + 1 }
-    ensures since { IsTotalFrom project.now (line_before project.now (kept.new.counts.steps + 1)) kept.new.counts.steps since.new }
+    ensures since { IsTotalFrom project.now (line_before project.now (kept.new.counts.steps + 1))
+        kept.new.counts.steps since.new }
     ensures bytes { Puts (W.held rpt.old) (W.held rpt.new) (own_line project.now (kept.old.counts.steps + 1)) result }
     ensures cause { HasCause (W.faults rpt.old) (W.faults rpt.new) result }
 {
