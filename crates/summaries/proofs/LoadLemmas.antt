@@ -7,7 +7,7 @@ use Rattle.std.specs.Int.{int_max}
 use Rattle.std.proofs.lemmas.Bool.{cases_lt}
 use Rattle.std.proofs.lemmas.Bool.Decides.{nat_tests}
 use Rattle.std.proofs.lemmas.Int.{ints}
-use Rattle.std.proofs.lemmas.List.{map-append, take_more, length-map}
+use Rattle.std.proofs.lemmas.List.{ext_get_or, get_or-map, map-append, take_more, length-map}
 use Rattle.fixed_num.specs.Ranges.{IsBetween, IsWithin}
 use Rattle.fixed_num.proofs.Bounds.{within_add, within_mul, within_up}
 use Rattle.fixed_num.specs.Sums.{sum_below}
@@ -15,7 +15,7 @@ use Rattle.net_types.specs.declared.network.Node.{Node}
 use Rattle.net_types.specs.declared.project.Project.{Project}
 use Rattle.trial_model.specs.declared.nets.Nets.{Nets}
 use Rattle.summaries.specs.Loads.{AreLoads, AreLoadsOf, Loads, is_outfall_node, load_at, load_of, most_of, net_in}
-use Rattle.summaries.specs.Loads.{no_load, no_loads, outfalls_from, volume_in, with_load}
+use Rattle.summaries.specs.Loads.{no_load, no_loads, outfall_nodes, outfalls_from, volume_in, with_load}
 use Rattle.summaries.specs.declared.outfall_summary.OutfallSummary.{OutfallSummary}
 
 -- ---- no state
@@ -114,6 +114,20 @@ keeps_node : (first : Bool) (s : OutfallSummary) (net volume : ℤ) → (with_lo
 keeps_node true s net volume = refl
 keeps_node false s net volume = refl
 
+pub nodes_kept : (first : Bool) (nets : Nets) (ms : ℤ) (old new : List OutfallSummary) → length new ≡ length old
+    → ((k : ℕ) → k < length old → load_at new k
+    ≡ with_load first (load_at old k) (net_in nets (load_at old k).node) (volume_in nets ms (load_at old k).node))
+    → outfall_nodes new ≡ outfall_nodes old
+nodes_kept first nets ms old new same each =
+    let node = λ (s : OutfallSummary). s.node in
+    ext_get_or 0 (map node new) (map node old) (length-map new node ∙ same ∙ sym (length-map old node))
+    (λ k inside.
+    let there : k < length new = omega (arith, inside, length-map new node) in
+    let before : k < length old = omega (arith, there, same) in
+    let s = load_at old k in
+    get_or-map node new k (no_load 0) 0 there ∙ ap node (each k before)
+    ∙ keeps_node first s (net_in nets s.node) (volume_in nets ms s.node) ∙ sym (get_or-map node old k (no_load 0) 0 before))
+
 not_first : (n : ℕ) → (suc n == 0) ≡ false
 not_first n = grind (arith, nat_tests)
 
@@ -204,23 +218,6 @@ half_within {ms = negsuc n} h = let low = h.from in absurd (omega (arith, ints, 
 pub volume_within : {old net ms : ℤ} → IsBetween (pos 0) ms (pos 3_600_000) → IsWithin (3 * 10 ^ 16) old
     → IsWithin (3 * 10 ^ 16) net → IsWithin (10 ^ 24) (int_div ms (pos 2) *ℤ (old +ℤ net))
 volume_within h p q = within_up (within_mul (half_within h) (within_add p q)) tt
-
--- a state leaves each summary with its node
-past_node : (outfalls : List OutfallSummary) (k : ℕ) → length outfalls ≤ k → (load_at outfalls k).node ≡ 0
-past_node [] k h = refl
-past_node (s ∷ outfalls) zero h = absurd (omega (arith, h))
-past_node (s ∷ outfalls) (suc k) h = past_node outfalls k (omega (arith, h))
-
-pub nodes_same : (old : Loads) (new : List OutfallSummary) (nets : Nets) (ms : ℤ) → length new ≡ length old.outfalls
-    → ((k : ℕ) → k < length old.outfalls → load_at new k ≡ with_load (old.states == 0) (load_at old.outfalls k)
-    (net_in nets (load_at old.outfalls k).node) (volume_in nets ms (load_at old.outfalls k).node))
-    → (k : ℕ) → (load_at new k).node ≡ (load_at old.outfalls k).node
-nodes_same old new nets ms same each k = elim (cases_lt k (length old.outfalls)) [
-  | inl less ↦ let s = load_at old.outfalls k in
-      ap (λ (t : OutfallSummary). t.node) (each k less)
-      ∙ keeps_node (old.states == 0) s (net_in nets s.node) (volume_in nets ms s.node)
-  | inr over ↦ past_node new k (omega (arith, over, same)) ∙ sym (past_node old.outfalls k (omega (arith, over)))
-]
 
 -- what holds of all numbers below one, and of that one
 pub below_more : (P : ℕ → Type 0) (n : ℕ) → ((k : ℕ) → k < n → P k) → P n → (k : ℕ) → k < n + 1 → P k

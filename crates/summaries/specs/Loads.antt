@@ -74,6 +74,10 @@ no_load node = record { node = node; volume = pos 0; max_flow = pos 0 }
 abbrev pub no_loads : Project → Loads
 no_loads project = record { outfalls = map no_load (outfalls_from 0 project.nodes); states = 0 }
 
+-- the numbers of the nodes that summaries are of
+abbrev pub outfall_nodes : List OutfallSummary → List ℕ
+outfall_nodes outfalls = map (λ (outfall : OutfallSummary). outfall.node) outfalls
+
 -- the summary of a number
 abbrev pub load_at : List OutfallSummary → ℕ → OutfallSummary
 load_at outfalls k = slice_index_or outfalls k (no_load 0)

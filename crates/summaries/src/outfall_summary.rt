@@ -3,7 +3,7 @@ ghost use Rattle.std.specs.Prelude.{◌≡◌, ℕ, ◌+◌, ◌*◌, ◌^◌, �
 ghost use Rattle.fixed_num.specs.Ranges.{IsBetween, IsFlow, IsWithin};
 ghost use Rattle.trial_model.specs.declared.nets.Nets.{Nets as State};
 ghost use Rattle.summaries.specs.Loads.{AreLoads, AreLoadsOf, HasNets, load_at, net_by, net_in, no_load, no_loads};
-ghost use Rattle.summaries.specs.Loads.{is_outfall_node, outfalls_from, volume_by, volume_in, with_load};
+ghost use Rattle.summaries.specs.Loads.{is_outfall_node, outfall_nodes, outfalls_from, volume_by, volume_in, with_load};
 
 use net_types::{List, Node, NodeKind, OutOfMemory, Project};
 use phase_law::NodeFixed;
@@ -61,9 +61,8 @@ impl OutfallSums {
         ensures summaries { (run : ℕ → State) (lengths : ℕ → ℤ) → AreLoads run lengths self.old
             → run self.old.states ≡ nets.now → lengths self.old.states ≡ ms → AreLoads run lengths self.new }
         ensures loads { AreLoadsOf (length nets.now.nodes) self.new }
-        ensures count { length self.new.outfalls ≡ length self.old.outfalls }
-        ensures nodes { (k : ℕ) → (load_at self.new.outfalls k).node ≡ (load_at self.old.outfalls k).node }
         ensures states { self.new.states ≡ self.old.states + 1 }
+        ensures nodes { outfall_nodes self.new.outfalls ≡ outfall_nodes self.old.outfalls }
     {
         let first = self.states == 0;
         let outfalls = self.outfalls.as_mut_slice();

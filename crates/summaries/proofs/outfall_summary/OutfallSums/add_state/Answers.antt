@@ -1,8 +1,8 @@
-use Rattle.std.proofs.Common.{◌≡◌, ℕ, length, ap, sym, subst, ◌∙◌}
+use Rattle.std.proofs.Common.{◌≡◌, length, ap, sym, subst, ◌∙◌}
 use Rattle.std.proofs.lemmas.Int.{to_z-of_z}
-use Rattle.summaries.specs.Loads.{AreLoads, AreLoadsOf, Loads, load_at}
+use Rattle.summaries.specs.Loads.{AreLoads, AreLoadsOf, Loads, outfall_nodes}
 use Rattle.summaries.proofs.FigureLemmas.{written_whole}
-use Rattle.summaries.proofs.LoadLemmas.{loads_are, loads_more, nodes_same}
+use Rattle.summaries.proofs.LoadLemmas.{loads_are, loads_more, nodes_kept}
 use Rattle.summaries.proofs.outfall_summary.OutfallSums.add_state.Goals as goal
 
 pub returns-clause-summaries : goal.returns-clause-summaries
@@ -35,7 +35,5 @@ returns-clause-nodes c =
     let old : c.args.self.now ≡ inside = sym c.self.view_is in
     let count = c.add_loads.ensures.count ∙ ap length c.as_mut_slice-outfalls.ensures.value in
     let each = simp (to_z-of_z, c.ranges.ms, c.as_mut_slice-outfalls.ensures.value) at c.add_loads.ensures.each in
-    let same = nodes_same inside c.add_loads.new.outfalls c.args.nets.now c.args.ms count each in
-    let from_old = subst (λ (l : Loads). (k : ℕ) → (load_at c.add_loads.new.outfalls k).node ≡ (load_at l.outfalls k).node)
-    (sym old) same in
-    simp (written_whole c.self.inside.outfalls c.add_loads.new.outfalls count) from_old
+    let kept = nodes_kept _ c.args.nets.now c.args.ms inside.outfalls c.add_loads.new.outfalls count each in
+    rw (ap (λ (l : Loads). outfall_nodes l.outfalls) old) (simp (written_whole c.self.inside.outfalls c.add_loads.new.outfalls count) kept)
