@@ -1,5 +1,5 @@
 // The account of a run.
-ghost use Rattle.std.specs.Prelude.{◌≡◌, ℕ, ◌+◌, ◌^◌, ◌<◌, pos};
+ghost use Rattle.std.specs.Prelude.{◌≡◌, ℕ, ◌+◌, ◌^◌, ◌<◌, eqb, pos};
 ghost use Rattle.net_types.specs.declared.account.StepAccount.{StepAccount as AccountOf};
 ghost use Rattle.continuity.specs.Account.{Balances};
 ghost use Rattle.continuity.specs.Run.{IsTotal, nothing};
@@ -48,6 +48,22 @@ impl RunAccount {
     {
         self.total = plus(&self.total, step);
         self.steps += 1;
+    }
+
+    /// Whether no account was added, or none since it was cleared.
+    pub fn is_empty(&self) -> bool
+        ensures { result ≡ eqb self.now.steps 0 }
+    {
+        self.steps == 0
+    }
+
+    /// Makes it the account of no step again.
+    pub fn clear(&mut self)
+        ensures value { self.new ≡ record { total = nothing; steps = 0 } }
+        ensures total { (f : ℕ → AccountOf) → IsTotal f self.new }
+    {
+        self.total = no_account();
+        self.steps = 0;
     }
 
     /// The sum of all accounts that were added. It balances.

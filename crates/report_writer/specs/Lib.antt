@@ -5,3 +5,6 @@ pub mod ReportSections
 pub mod RunReport
 pub mod SummarySections
 pub mod Texts
+pub mod StepLines
+pub mod LoadSections
+pub mod WholeTail

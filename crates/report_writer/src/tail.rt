@@ -88,7 +88,8 @@ fn put_links<W: Sink>(
     }
 }
 
-fn put_continuity<W: Sink>(to: &mut W, total: &StepAccount) -> Result<(), Failed>
+// Puts the volumes of a run.
+pub(crate) fn put_continuity<W: Sink>(to: &mut W, total: &StepAccount) -> Result<(), Failed>
     ensures bytes { Puts (W.held to.old) (W.held to.new) (continuity_section total.now) result }
     ensures cause { HasCause (W.faults to.old) (W.faults to.new) result }
 {
@@ -116,7 +117,7 @@ fn put_continuity<W: Sink>(to: &mut W, total: &StepAccount) -> Result<(), Failed
 }
 
 // Puts the counts of a run, and the end of the report.
-fn put_counts<W: Sink>(to: &mut W, counts: &RunCounts) -> Result<(), Failed>
+pub(crate) fn put_counts<W: Sink>(to: &mut W, counts: &RunCounts) -> Result<(), Failed>
     ensures bytes { Puts (W.held to.old) (W.held to.new) (steps_section counts.now) result }
     ensures cause { HasCause (W.faults to.old) (W.faults to.new) result }
 {

@@ -14,7 +14,8 @@ use Rattle.fixed_num.specs.Lists.{number}
 use Rattle.trial_model.specs.Trial.{SumsOf}
 use Rattle.trial_model.specs.declared.nets.Nets.{Nets}
 use Rattle.trial_model.specs.declared.step.StepEnd.{StepEnd}
-use Rattle.run_engine.specs.Kept.{AreFloodsAt, IsKept, IsMomentAt, IsStateAt, IsTotalAt}
+use Rattle.runoff_states.specs.RunoffTimes.{steps_done}
+use Rattle.run_engine.specs.Kept.{AreFloodsAt, AreRunoffsOf, IsKept, IsMomentAt, IsStateAt, IsTotalAt}
 use Rattle.run_engine.specs.Progress.{IsAt}
 use Rattle.run_engine.specs.Results.{account_at, end_at, floods_at, total_after}
 use Rattle.project_check.specs.Faultless.{IsFaultless}
@@ -27,13 +28,15 @@ use Rattle.run_engine.specs.Times.{IsRunTime, goes_on, length_of}
 use Rattle.run_engine.proofs.ClockLemmas.{moment_next, steps_within}
 use Rattle.run_engine.proofs.StepLemmas.{step_is}
 use Rattle.run_engine.proofs.SumsLemmas.{nodes_are, links_are}
+use Rattle.run_engine.proofs.OutfallLemmas.{outfalls_are}
+use Rattle.run_engine.proofs.SubLemmas.{subs_are}
 
 -- what callers see of a run that keeps these
 pub total_is : (project : Project) (k : ℕ) (running : Running) → IsTotalAt project k running → running.total ≡ total_after project k
 total_is project k running at = rw at.steps at at.total.total
 
 pub kept_at : {project : Project} {h : Hydraulics} {kept : Kept} → IsKept project h kept
-    → IsAt (record { project = project; nets = kept.nets; total = kept.total.total; nodes = kept.sums.nodes; links = kept.sums.links; counts = kept.counts }) kept.counts.steps
+    → IsAt (record { project = project; nets = kept.nets; total = kept.total.total; nodes = kept.sums.nodes; links = kept.sums.links; outfalls = kept.outfalls.outfalls; subs = kept.subs.subs; counts = kept.counts }) kept.counts.steps
 kept_at {project} {h} {kept} is = record {
   ready = is.ready;
   within = steps_within is.clock;
@@ -41,6 +44,8 @@ kept_at {project} {h} {kept} is = record {
   total = total_is project kept.counts.steps kept.total is.totalled;
   nodes = nodes_are project kept.counts.steps kept.sums is.summed;
   links = links_are project kept.counts.steps kept.sums is.summed;
+  outfalls = outfalls_are project kept.counts.steps kept.outfalls is.loaded;
+  subs = subs_are project kept.counts.steps kept.subs (subst (λ (z : ℤ). AreRunoffsOf project (steps_done project.options.wet_ms z) kept.subs) is.clock.same is.rained);
   counts = is.counted.same;
 }
 

@@ -15,4 +15,11 @@ pub mod ReportLemmas
 pub mod RunLemmas
 pub mod LateralLemmas
 pub mod RunoffLemmas
+pub mod LineLemmas
+pub mod LineLaws
+pub mod StepsLemmas
+pub mod SubLemmas
+pub mod OutfallLemmas
+pub mod SoilLemmas
+pub mod VolumeLemmas
 pub mod InputLemmas

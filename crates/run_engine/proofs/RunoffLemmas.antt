@@ -86,18 +86,24 @@ last_of {project} {earlier} {moment} {runoff} r between at =
     no_less n (pos ms) h = omega (arith, ints)
     no_less n (negsuc ms) h = absurd (omega (arith, ints, h))
 
--- where no step is due at a moment, the runoff is that of the moment
-pub at_of : {project : Project} {moment : ℤ} {steps : ℕ} {runoff : Runoff} → IsFaultless project
+-- where no step is due at a moment, the steps that were made are those that are done, and the runoff is that of the moment
+pub count_of : {project : Project} {moment : ℤ} {steps : ℕ} {runoff : Runoff} → IsFaultless project
     → IsLastAt project moment steps runoff → moment <ℤ (runoff.begin +ℤ project.options.wet_ms)
-    → IsRunoffAt project moment runoff
-at_of {project} {moment} {steps} {runoff} r last past =
+    → steps ≡ steps_done project.options.wet_ms moment
+count_of {project} {moment} {steps} {runoff} r last past =
     let ms = project.options.wet_ms in
     let more = product_next steps ms in
     let done : AreDone ms moment steps = record {
       ended = subst (λ (b : ℤ). b ≤ℤ moment) last.after.begins last.begun.to;
       next = subst (λ (m : ℤ). moment <ℤ m) (ap (λ (b : ℤ). b +ℤ ms) last.after.begins ∙ sym more) past;
     } in
-    subst (λ (k : ℕ). IsRunoffAfter project (start_state project) (pos 0) k runoff) (one_count ms moment steps (run_wet project r) done) last.after
+    one_count ms moment steps (run_wet project r) done
+
+pub at_of : {project : Project} {moment : ℤ} {steps : ℕ} {runoff : Runoff} → IsFaultless project
+    → IsLastAt project moment steps runoff → moment <ℤ (runoff.begin +ℤ project.options.wet_ms)
+    → IsRunoffAt project moment runoff
+at_of {project} {moment} {steps} {runoff} r last past =
+    subst (λ (k : ℕ). IsRunoffAfter project (start_state project) (pos 0) k runoff) (count_of r last past) last.after
 
 -- a step begins within the run, and its states are within what a step takes
 pub step_room : {project : Project} {moment : ℤ} {steps : ℕ} {runoff : Runoff} → moment ≤ℤ pos 316_224_000_000

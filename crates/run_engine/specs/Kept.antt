@@ -8,12 +8,15 @@ use Rattle.link_eval.specs.declared.hydraulics.Hydraulics.{Hydraulics}
 use Rattle.net_types.specs.declared.project.Project.{Project}
 use Rattle.report_writer.specs.declared.counts.RunCounts.{RunCounts}
 use Rattle.summaries.specs.Figures.{Figures, AreFigures, AreSummaries, inverts_of}
+use Rattle.summaries.specs.Loads.{AreLoads, AreLoadsOf, Loads, outfall_nodes, outfalls_from}
+use Rattle.summaries.specs.Runoffs.{AreRunoffs, AreSmall, Runoffs}
 use Rattle.trial_model.specs.Fits.{Fits}
 use Rattle.fixed_num.specs.Lists.{number}
 use Rattle.trial_model.specs.Trial.{SumsOf}
 use Rattle.trial_model.specs.declared.nets.Nets.{Nets}
 use Rattle.run_engine.specs.declared.kept.Kept.{Kept}
-use Rattle.run_engine.specs.Results.{account_at, counts_after, floods_at}
+use Rattle.run_engine.specs.Results.{account_at, counts_after, floods_at, length_before, runoff_after, runoff_steps}
+use Rattle.runoff_states.specs.RunoffTimes.{steps_done}
 use Rattle.run_engine.specs.Laterals.{IsRunoffAt}
 use Rattle.run_engine.specs.SettingRoom.{HasPlaces}
 use Rattle.project_check.specs.Faultless.{IsFaultless}
@@ -58,10 +61,29 @@ pub record AreSumsOf (project : Project) (count : ℕ) (figures : Figures) : Typ
   pub links : length figures.links ≡ length project.links
   pub summaries : AreSummaries (nets_at project) (floods_at project) (moment_at project) figures
 
+-- the loads are those of the first so many states, at the project's outfalls
+pub record AreLoadsAt (project : Project) (count : ℕ) (loads : Loads) : Type 0 where
+  pub good : AreLoadsOf (length project.nodes) loads
+  pub states : loads.states ≡ count
+  pub outfalls : outfall_nodes loads.outfalls ≡ outfalls_from 0 project.nodes
+  pub summaries : AreLoads (nets_at project) (length_before project) loads
+
+-- the runoffs are those of the first so many steps of runoff, on the project's subcatchments
+pub record AreRunoffsOf (project : Project) (steps : ℕ) (runoffs : Runoffs) : Type 0 where
+  pub small : AreSmall runoffs
+  pub steps_are : runoffs.steps ≡ steps
+  pub places : length runoffs.subs ≡ length project.subs
+  pub summaries : AreRunoffs (runoff_steps project) (runoff_after project) runoffs
+
 -- the total is that of the first k steps
 pub record IsTotalAt (project : Project) (k : ℕ) (running : Running) : Type 0 where
   pub steps : running.steps ≡ k
   pub total : IsTotal (account_at project) running
+
+-- it is the account of the steps from one state to another
+pub record IsTotalFrom (project : Project) (from k : ℕ) (running : Running) : Type 0 where
+  pub steps : from + running.steps ≡ k
+  pub total : IsTotal (λ j. account_at project (from + j)) running
 
 -- the counts are those of the first k steps, of at most 20 trials each
 pub record AreCountsAt (project : Project) (k : ℕ) (counts : RunCounts) : Type 0 where
@@ -81,5 +103,7 @@ pub record IsKept (project : Project) (h : Hydraulics) (kept : Kept) : Type 0 wh
   pub setting_room : HasPlaces project kept.room
   pub flood_room : length kept.floods ≡ length project.nodes
   pub summed : AreSumsOf project (kept.counts.steps + 1) kept.sums
+  pub loaded : AreLoadsAt project (kept.counts.steps + 1) kept.outfalls
+  pub rained : AreRunoffsOf project (steps_done project.options.wet_ms kept.moment) kept.subs
   pub totalled : IsTotalAt project kept.counts.steps kept.total
   pub counted : AreCountsAt project kept.counts.steps kept.counts

@@ -5,6 +5,7 @@ pub mod SettingRoom
 pub mod States
 pub mod Amounts
 pub mod Results
+pub mod StepLines
 pub mod Report
 pub mod Progress
 pub mod Kept

@@ -5,8 +5,11 @@ use Rattle.net_types.specs.declared.project.Project.{Project}
 use Rattle.report_writer.specs.declared.counts.RunCounts.{RunCounts}
 use Rattle.summaries.specs.declared.link_summary.LinkSummary.{LinkSummary}
 use Rattle.summaries.specs.declared.node_summary.NodeSummary.{NodeSummary}
+use Rattle.summaries.specs.declared.outfall_summary.OutfallSummary.{OutfallSummary}
+use Rattle.summaries.specs.declared.sub_summary.SubSummary.{SubSummary}
 use Rattle.trial_model.specs.declared.nets.Nets.{Nets}
-use Rattle.run_engine.specs.Results.{total_after, counts_after, node_summaries, link_summaries}
+use Rattle.run_engine.specs.Results.{total_after, counts_after, node_summaries, link_summaries, outfall_summaries}
+use Rattle.run_engine.specs.Results.{sub_summaries}
 use Rattle.project_check.specs.Faultless.{IsFaultless}
 use Rattle.run_engine.specs.States.{moment_at, nets_at, steps_of}
 use Rattle.run_engine.specs.Times.{goes_on}
@@ -18,6 +21,8 @@ pub record Progress : Type 0 where
   pub total : StepAccount
   pub nodes : List NodeSummary
   pub links : List LinkSummary
+  pub outfalls : List OutfallSummary
+  pub subs : List SubSummary
   pub counts : RunCounts
 
 -- the run of a project that can be run has made its first k steps
@@ -28,6 +33,8 @@ pub record IsAt (run : Progress) (k : ℕ) : Type 0 where
   pub total : run.total ≡ total_after run.project k
   pub nodes : run.nodes ≡ node_summaries run.project k
   pub links : run.links ≡ link_summaries run.project k
+  pub outfalls : run.outfalls ≡ outfall_summaries run.project k
+  pub subs : run.subs ≡ sub_summaries run.project k
   pub counts : run.counts ≡ counts_after run.project k
 
 -- it goes on at state k: a step is left

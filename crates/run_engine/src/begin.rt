@@ -1,13 +1,14 @@
 // What a run begins with.
 ghost use Rattle.std.specs.Prelude.{◌≡◌, IfOk, length, replicate, pos};
-ghost use Rattle.run_engine.specs.Kept.{AreFloodsAt, AreSumsOf, IsStateAt};
+ghost use Rattle.run_engine.specs.Kept.{AreFloodsAt, AreLoadsAt, AreSumsOf, IsStateAt};
 ghost use Rattle.project_check.specs.Faultless.{IsFaultless};
+ghost use Rattle.summaries.specs.Runoffs.{AreSmall, no_runoffs};
 
-use crate::one_step::add_state;
+use crate::one_step::{add_load, add_state};
 use crate::settings::SettingRoom;
 use net_types::{List, OutOfMemory, Project};
 use std::alloc::Global;
-use summaries::Summaries;
+use summaries::{OutfallSums, SubSums, Summaries};
 use trial_model::Nets;
 
 // So many zeros.
@@ -45,8 +46,38 @@ pub(crate) fn open_room(alloc: Global, nodes: u32, links: u32) -> Result<Setting
     })
 }
 
+// The summaries with which a run begins: those of the opening state, and those of no step of runoff.
+#[derive(Debug, Drop)]
+pub(crate) struct OpeningSums {
+    pub(crate) sums: Summaries,
+    pub(crate) outfalls: OutfallSums,
+    pub(crate) subs: SubSums,
+}
+
+// The summaries with which a run begins.
+pub(crate) fn open_summaries(
+    alloc: Global,
+    project: &Project,
+    nets: &Nets,
+    floods: &List<i128>,
+) -> Result<OpeningSums, OutOfMemory>
+    requires project { IsFaultless project.now }
+    requires now { IsStateAt project.now 0 nets.now }
+    requires floods { AreFloodsAt project.now 0 floods.now }
+    ensures sums { IfOk result (λ made. AreSumsOf project.now 1 made.sums) }
+    ensures outfalls { IfOk result (λ made. AreLoadsAt project.now 1 made.outfalls) }
+    ensures subs { IfOk result (λ made. made.subs ≡ no_runoffs project.now) }
+    ensures small { IfOk result (λ made. AreSmall made.subs) }
+{
+    Ok(OpeningSums {
+        subs: SubSums::with_room(alloc, project)?,
+        outfalls: open_outfalls(alloc, project, nets)?,
+        sums: open_sums(alloc, project, nets, floods)?,
+    })
+}
+
 // The summaries of the opening state.
-pub(crate) fn open_sums(
+fn open_sums(
     alloc: Global,
     project: &Project,
     nets: &Nets,
@@ -60,4 +91,15 @@ pub(crate) fn open_sums(
     let mut sums = Summaries::with_room(alloc, project)?;
     add_state(project, 0, 0, nets, floods.as_slice(), &mut sums);
     Ok(sums)
+}
+
+// The summaries of outfalls of the opening state, to which no step led.
+fn open_outfalls(alloc: Global, project: &Project, nets: &Nets) -> Result<OutfallSums, OutOfMemory>
+    requires project { IsFaultless project.now }
+    requires now { IsStateAt project.now 0 nets.now }
+    ensures { IfOk result (λ outfalls. AreLoadsAt project.now 1 outfalls) }
+{
+    let mut outfalls = OutfallSums::with_room(alloc, project)?;
+    add_load(project, 0, 0, nets, &mut outfalls);
+    Ok(outfalls)
 }

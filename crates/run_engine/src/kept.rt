@@ -4,7 +4,7 @@ use continuity::RunAccount;
 use net_types::List;
 use report_writer::RunCounts;
 use runoff_states::Runoff;
-use summaries::Summaries;
+use summaries::{OutfallSums, SubSums, Summaries};
 use trial_model::Nets;
 
 // The state of a run and what its steps and states came to so far. The state before, the lateral inflows and the
@@ -20,6 +20,8 @@ pub(crate) struct Kept {
     pub(crate) room: SettingRoom,
     pub(crate) floods: List<i128>,
     pub(crate) sums: Summaries,
+    pub(crate) outfalls: OutfallSums,
+    pub(crate) subs: SubSums,
     pub(crate) total: RunAccount,
     pub(crate) counts: RunCounts,
 }

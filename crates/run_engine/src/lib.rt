@@ -6,14 +6,16 @@
 //! quickest conduit (`specs/Times.antt`). What a run comes to is said over the list of all its states (`specs/Results.antt`,
 //! `specs/Report.antt`). The code keeps one state, the one before it, and running totals.
 //!
-//! The contracts that matter: [`open_run`] gives a run at state 0, [`Run::advance_alone`] leaves it at the last state
-//! (`IsAt` of `specs/Progress.antt`), and [`Run::finish`] puts `report_of` its project. What a run keeps
+//! The contracts that matter: [`open_run`] gives a run at state 0, [`Run::advance_alone`] puts the head of the report, leaves
+//! the run at the last state (`IsAt` of `specs/Progress.antt`) and puts the step lines on the way
+//! (`specs/StepLines.antt`), and [`Run::finish`] puts the figures: together `report_of` its project. What a run keeps
 //! between two steps, and so what always holds of a [`Run`], stands in `specs/Kept.antt`.
 #![tactic(auto, using(fixed_num::proofs::Bounds::casts))]
 
 mod begin;
 mod kept;
 mod laterals;
+mod laws;
 mod one_step;
 mod opening;
 mod output;
@@ -23,4 +25,5 @@ mod settings;
 mod step;
 mod times;
 
+pub use laws::lines_stand_at_reports;
 pub use run::{Run, RunFault, open_run};

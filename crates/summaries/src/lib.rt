@@ -10,7 +10,11 @@
 mod figures;
 mod link_summary;
 mod node_summary;
+mod outfall_summary;
+mod sub_summary;
 
 pub use figures::{Summaries, peaks_are_greatest};
 pub use link_summary::LinkSummary;
 pub use node_summary::NodeSummary;
+pub use outfall_summary::{OutfallSummary, OutfallSums};
+pub use sub_summary::{SubSummary, SubSums};

@@ -1,2 +1,3 @@
 mod InputLemmas
 mod OutcomeLemmas
+mod RunLemmas

@@ -1,6 +1,7 @@
 // The run of a project, and its report.
 ghost use Rattle.std.specs.Prelude.{◌≡◌, ◌⊎◌, IfOk, OnErr, IsErrOf};
 ghost use Rattle.fault_ports.specs.Output.{Puts};
+ghost use Rattle.run_engine.specs.Progress.{IsAt};
 ghost use Rattle.run_engine.specs.Report.{report_of};
 ghost use Rattle.project_check.specs.Faultless.{IsFaultless};
 ghost use Rattle.swmm_top.specs.Answers.{EndsReport};
@@ -32,6 +33,7 @@ pub(crate) fn report_run<W: Sink>(
 
 // Makes a run that was just opened, reports it, and gives its memory back.
 fn finish_run<W: Sink>(run: Run, rpt: &mut W) -> Result<Status, TopFault>
+    requires { IsAt run 0 }
     ensures status { IfOk result (λ status. status ≡ Status.Done) }
     ensures report { Puts (W.held rpt.old) (W.held rpt.new) (report_of run.project) result }
     ensures ends { EndsReport W.faults rpt.old rpt.new result }
@@ -42,8 +44,9 @@ fn finish_run<W: Sink>(run: Run, rpt: &mut W) -> Result<Status, TopFault>
     answer
 }
 
-// Makes all steps of a run, and reports it.
+// Makes all steps of a run that was just opened, and reports it.
 fn make_run<W: Sink>(run: &mut Run, rpt: &mut W) -> Result<Status, TopFault>
+    requires { IsAt run.old 0 }
     ensures status { IfOk result (λ status. status ≡ Status.Done) }
     ensures report { Puts (W.held rpt.old) (W.held rpt.new) (report_of run.old.project) result }
     ensures ends { EndsReport W.faults rpt.old rpt.new result }

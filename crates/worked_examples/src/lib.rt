@@ -9,6 +9,8 @@ mod commands;
 #[cfg(test)]
 mod failures;
 #[cfg(test)]
+mod hotstarts;
+#[cfg(test)]
 mod reaches;
 #[cfg(test)]
 mod refusals;

@@ -37,6 +37,10 @@ pub(crate) const ONE_REACH_REPORT: &[u8] = b"SWMM5-FX REPORT\n\
     Routing Step 10000 ms\n\
     Report Step 10000 ms\n\
     \n\
+    Step Continuity (mm3)\n\
+    10000 1000000000 24660000 987750000 -12410000\n\
+    20000 1000000000 120435000 890800000 -11235000\n\
+    \n\
     Flow Routing Continuity (mm3)\n\
     Inflow 2000000000\n\
     Outfall 145095000\n\
@@ -48,8 +52,22 @@ pub(crate) const ONE_REACH_REPORT: &[u8] = b"SWMM5-FX REPORT\n\
     J1 1.018785 20000 1.018785\n\
     O1 1.000000 0 1.000000\n\
     \n\
+    Node Flooding Summary (mm3)\n\
+    \n\
+    Outfall Loading Summary\n\
+    O1 145095000 0.019155\n\
+    \n\
     Link Flow Summary\n\
     C1 0.019155 20000 0.019155\n\
+    \n\
+    Subcatchment Runoff Summary (mm3)\n\
+    \n\
+    Runoff Quantity Continuity (mm3)\n\
+    Rain 0\n\
+    Infiltration 0\n\
+    Runoff 0\n\
+    Storage Change 0\n\
+    Error 0\n\
     \n\
     Routing Steps\n\
     Steps 2\n\
@@ -105,6 +123,9 @@ pub(crate) const BACKWATER: &[u8] = b"[TITLE]\n\
 
 pub(crate) const BACKWATER_FIGURES: &[u8] = b"Report Step 10000 ms\n\
     \n\
+    Step Continuity (mm3)\n\
+    10000 0 -515265000 515350000 -85000\n\
+    \n\
     Flow Routing Continuity (mm3)\n\
     Inflow 0\n\
     Outfall -515265000\n\
@@ -116,8 +137,22 @@ pub(crate) const BACKWATER_FIGURES: &[u8] = b"Report Step 10000 ms\n\
     J1 1.005153 10000 1.005153\n\
     O1 1.100000 0 1.100000\n\
     \n\
+    Node Flooding Summary (mm3)\n\
+    \n\
+    Outfall Loading Summary\n\
+    O1 -515265000 0.000000\n\
+    \n\
     Link Flow Summary\n\
     C1 0.103053 10000 -0.103053\n\
+    \n\
+    Subcatchment Runoff Summary (mm3)\n\
+    \n\
+    Runoff Quantity Continuity (mm3)\n\
+    Rain 0\n\
+    Infiltration 0\n\
+    Runoff 0\n\
+    Storage Change 0\n\
+    Error 0\n\
     \n\
     Routing Steps\n\
     Steps 1\n\
@@ -154,8 +189,22 @@ pub(crate) const ONE_TRIAL_FIGURES: &[u8] = b"\n\
     J1 1.019507 20000 1.019507\n\
     O1 1.000000 0 1.000000\n\
     \n\
+    Node Flooding Summary (mm3)\n\
+    \n\
+    Outfall Loading Summary\n\
+    O1 49320000 0.009864\n\
+    \n\
     Link Flow Summary\n\
     C1 0.009864 20000 0.009864\n\
+    \n\
+    Subcatchment Runoff Summary (mm3)\n\
+    \n\
+    Runoff Quantity Continuity (mm3)\n\
+    Rain 0\n\
+    Infiltration 0\n\
+    Runoff 0\n\
+    Storage Change 0\n\
+    Error 0\n\
     \n\
     Routing Steps\n\
     Steps 2\n\
@@ -192,8 +241,22 @@ pub(crate) const FIRST_STEP_FIGURES: &[u8] = b"\n\
     J1 1.010000 10000 1.010000\n\
     O1 1.000000 0 1.000000\n\
     \n\
+    Node Flooding Summary (mm3)\n\
+    \n\
+    Outfall Loading Summary\n\
+    O1 0 0.000000\n\
+    \n\
     Link Flow Summary\n\
     C1 0.000000 0 0.000000\n\
+    \n\
+    Subcatchment Runoff Summary (mm3)\n\
+    \n\
+    Runoff Quantity Continuity (mm3)\n\
+    Rain 0\n\
+    Infiltration 0\n\
+    Runoff 0\n\
+    Storage Change 0\n\
+    Error 0\n\
     \n\
     Routing Steps\n\
     Steps 1\n\
@@ -266,11 +329,75 @@ pub(crate) const FEET_FIGURES: &[u8] = b"Flow Routing Continuity (mm3)\n\
     J1 3.078901 20000 3.078901\n\
     O1 3.000000 0 3.000000\n\
     \n\
+    Node Flooding Summary (mm3)\n\
+    \n\
+    Outfall Loading Summary\n\
+    O1 170550000 0.794933\n\
+    \n\
     Link Flow Summary\n\
     C1 0.794933 20000 0.794933\n\
+    \n\
+    Subcatchment Runoff Summary (mm3)\n\
+    \n\
+    Runoff Quantity Continuity (mm3)\n\
+    Rain 0\n\
+    Infiltration 0\n\
+    Runoff 0\n\
+    Storage Change 0\n\
+    Error 0\n\
     \n\
     Routing Steps\n\
     Steps 2\n\
     Trials 4\n\
+    Not Converged 0\n\
+    End of report\n";
+
+// Two nodes and no link: the run has no step.
+pub(crate) const NO_STEPS: &[u8] = b"[JUNCTIONS]\n\
+    J1 0\n\
+    [OUTFALLS]\n\
+    O1 0 FREE NO\n";
+
+pub(crate) const NO_STEPS_REPORT: &[u8] = b"SWMM5-FX REPORT\n\
+    \n\
+    Analysis Options\n\
+    Flow Units CFS\n\
+    Start 2002-01-01 00:00:00\n\
+    End 2002-01-01 00:00:00\n\
+    Routing Step 20000 ms\n\
+    Report Step 900000 ms\n\
+    \n\
+    Step Continuity (mm3)\n\
+    \n\
+    Flow Routing Continuity (mm3)\n\
+    Inflow 0\n\
+    Outfall 0\n\
+    Flooding 0\n\
+    Storage Change 0\n\
+    Error 0\n\
+    \n\
+    Node Depth Summary\n\
+    J1 0.000000 0 0.000000\n\
+    O1 0.000000 0 0.000000\n\
+    \n\
+    Node Flooding Summary (mm3)\n\
+    \n\
+    Outfall Loading Summary\n\
+    O1 0 0.000000\n\
+    \n\
+    Link Flow Summary\n\
+    \n\
+    Subcatchment Runoff Summary (mm3)\n\
+    \n\
+    Runoff Quantity Continuity (mm3)\n\
+    Rain 0\n\
+    Infiltration 0\n\
+    Runoff 0\n\
+    Storage Change 0\n\
+    Error 0\n\
+    \n\
+    Routing Steps\n\
+    Steps 0\n\
+    Trials 0\n\
     Not Converged 0\n\
     End of report\n";

@@ -1,9 +1,9 @@
 // What commands answer and report whose ports don't fail.
 use crate::commands::{BYTE_BY_BYTE, LARGE_PIECES, NO_TROUBLE, Ran, check_over, run_over, words};
 use crate::reaches::{
-    BACKWATER, BACKWATER_FIGURES, FEET, FEET_FIGURES, FIRST_STEP, FIRST_STEP_FIGURES, ONE_REACH,
-    ONE_REACH_ACCEPTED, ONE_REACH_REPORT, ONE_TRIAL, ONE_TRIAL_FIGURES, OTHER_LINE_ENDS, WARNED,
-    WARNED_HEAD,
+    BACKWATER, BACKWATER_FIGURES, FEET, FEET_FIGURES, FIRST_STEP, FIRST_STEP_FIGURES, NO_STEPS,
+    NO_STEPS_REPORT, ONE_REACH, ONE_REACH_ACCEPTED, ONE_REACH_REPORT, ONE_TRIAL, ONE_TRIAL_FIGURES,
+    OTHER_LINE_ENDS, WARNED, WARNED_HEAD,
 };
 use crate::refusals::{
     BACKWARD_INPUT, BACKWARD_REPORT, EMPTY_REPORT, FAULTY_INPUT, FAULTY_REPORT, OVER_LIMIT_REPORT,
@@ -31,7 +31,7 @@ struct Example {
     report: Expected,
 }
 
-fn examples() -> [Example; 10] {
+fn examples() -> [Example; 11] {
     [
         done(ONE_REACH, Expected::Whole(ONE_REACH_REPORT)),
         done(OTHER_LINE_ENDS, Expected::Whole(ONE_REACH_REPORT)),
@@ -40,6 +40,7 @@ fn examples() -> [Example; 10] {
         done(FIRST_STEP, Expected::Ends(FIRST_STEP_FIGURES)),
         done(FEET, Expected::Ends(FEET_FIGURES)),
         done(WARNED, Expected::Begins(WARNED_HEAD)),
+        done(NO_STEPS, Expected::Whole(NO_STEPS_REPORT)),
         refused(b"", EMPTY_REPORT),
         refused(FAULTY_INPUT, FAULTY_REPORT),
         refused(BACKWARD_INPUT, BACKWARD_REPORT),

@@ -1,14 +1,16 @@
-use Rattle.std.proofs.Common.{◌≡◌, ◌∙◌, suc, ◌+ℤ◌, sym}
+use Rattle.std.proofs.Common.{◌≡◌, ◌∙◌, ℕ, ◌<◌, suc, ◌+ℤ◌, ℤ, length, sym, subst, arith}
 use Rattle.std.proofs.lemmas.Int.{to_z-of_z}
 use Rattle.runoff_states.specs.RunoffTimes.{steps_done}
-use Rattle.run_engine.proofs.RunoffLemmas.{above_from, at_of, last_more, last_of, le_from, less_left, run_soil, run_wet, step_begins, step_room}
+use Rattle.run_engine.specs.Kept.{AreRunoffsOf}
+use Rattle.run_engine.proofs.RunoffLemmas.{above_from, at_of, count_of, last_more, last_of, le_from, less_left, run_soil, run_wet, step_begins, step_room}
+use Rattle.run_engine.proofs.SubLemmas.{few_before, runoffs_next}
 use Rattle.run_engine.proofs.laterals.advance_runoff.Goals as goal
 
 pub loop-runoff-init : goal.loop-runoff-init
 loop-runoff-init c =
-    let earlier = c.requires.runoff.0 in
+    let earlier = c.requires.earlier.0 in
     simp (to_z-of_z, c.ranges.moment)
-    (steps_done c.args.project.now.options.wet_ms earlier, last_of c.requires.project c.requires.runoff.1 c.requires.runoff.2)
+    (steps_done c.args.project.now.options.wet_ms earlier, last_of c.requires.project c.requires.earlier.1 c.requires.earlier.2, c.requires.earlier.3)
 
 pub step-requires-clause-infiltrations : goal.step-requires-clause-infiltrations
 step-requires-clause-infiltrations c = run_soil c.args.project.now c.requires.project
@@ -17,6 +19,29 @@ pub step-requires-clause-states : goal.step-requires-clause-states
 step-requires-clause-states c =
     let kept = simp (to_z-of_z, c.ranges.moment) at c.loop-runoff.invariant in
     step_room c.requires.moment kept.1
+
+pub add_runoff-requires-clause-few : goal.add_runoff-requires-clause-few
+add_runoff-requires-clause-few c =
+    let kept = simp (to_z-of_z, c.ranges.moment) at c.loop-runoff.invariant in
+    few_before c.requires.project c.requires.moment kept.1 kept.2
+
+pub add_runoff-requires-clause-small : goal.add_runoff-requires-clause-small
+add_runoff-requires-clause-small c = c.loop-runoff.invariant.2.small
+
+pub add_runoff-requires-clause-steps : goal.add_runoff-requires-clause-steps
+add_runoff-requires-clause-steps c =
+    let kept = simp (to_z-of_z, c.ranges.moment) at c.loop-runoff.invariant in
+    let after = c.step.ensures.run _ _ kept.0 kept.1.after in
+    rw c.steps.ensures (after.places ∙ sym kept.2.places)
+
+pub add_runoff-requires-clause-states : goal.add_runoff-requires-clause-states
+add_runoff-requires-clause-states c =
+    let kept = simp (to_z-of_z, c.ranges.moment) at c.loop-runoff.invariant in
+    let after = c.step.ensures.run _ _ kept.0 kept.1.after in
+    rw c.states.ensures (after.states.each_sub ∙ sym kept.2.places)
+
+pub add_runoff-requires-clause-steps_in : goal.add_runoff-requires-clause-steps_in
+add_runoff-requires-clause-steps_in c = rw c.steps.ensures c.step.ensures.range
 
 pub loop-runoff-smaller : goal.loop-runoff-smaller
 loop-runoff-smaller c =
@@ -33,11 +58,23 @@ loop-runoff-preserved c =
     let kept = simp (to_z-of_z, c.ranges.moment) at c.loop-runoff.invariant in
     let due = simp (to_z-of_z, c.ranges.moment) at c.is_due.ensures in
     let after = c.step.ensures.run _ _ kept.0 kept.1.after in
-    simp (to_z-of_z, c.ranges.moment)
-    (suc kept.0, last_more c.requires.project kept.1 (le_from _ _ (sym due ∙ c.loop-runoff-test.true)) after)
+    let told = c.step.ensures.told _ _ kept.0 kept.1.after in
+    let added = rw (c.steps.ensures, c.states.ensures) at c.add_runoff.ensures.summaries in
+    simp (to_z-of_z, c.ranges.moment) (
+      suc kept.0,
+      last_more c.requires.project kept.1 (le_from _ _ (sym due ∙ c.loop-runoff-test.true)) after,
+      runoffs_next kept.2 after told added c.add_runoff.ensures.small c.add_runoff.ensures.steps c.add_runoff.ensures.subs,
+    )
 
-pub returns : goal.returns
-returns c =
+pub returns-clause-runoff : goal.returns-clause-runoff
+returns-clause-runoff c =
     let kept = simp (to_z-of_z, c.ranges.moment) at c.loop-runoff.invariant in
     let due = simp (to_z-of_z, c.ranges.moment) at c.is_due.ensures in
     at_of c.requires.project kept.1 (above_from _ _ (sym due ∙ c.loop-runoff-test.false))
+
+pub returns-clause-summaries : goal.returns-clause-summaries
+returns-clause-summaries c =
+    let kept = simp (to_z-of_z, c.ranges.moment) at c.loop-runoff.invariant in
+    let due = simp (to_z-of_z, c.ranges.moment) at c.is_due.ensures in
+    subst (λ (n : ℕ). AreRunoffsOf c.args.project.now n c.loop-runoff.subs)
+    (count_of c.requires.project kept.1 (above_from _ _ (sym due ∙ c.loop-runoff-test.false))) kept.2

@@ -2,11 +2,15 @@ use Rattle.std.proofs.Common.{rules, ◌∙◌, ◌+◌, ◌+ℤ◌, ℕ, ℤ, l
 use Rattle.std.proofs.lemmas.Int.{to_z-of_z}
 use Rattle.trial_model.proofs.TrialLemmas.{written_whole}
 use Rattle.trial_model.specs.Fits.{Fits}
-use Rattle.run_engine.specs.Kept.{AreCountsAt, AreSumsOf, IsMomentAt, IsStateAt, IsTotalAt}
+use Rattle.run_engine.specs.Kept.{AreCountsAt, AreLoadsAt, AreRunoffsOf, AreSumsOf, IsMomentAt, IsStateAt, IsTotalAt, IsTotalFrom}
 use Rattle.run_engine.specs.States.{project_law}
+use Rattle.run_engine.specs.StepLines.{line_before}
+use Rattle.runoff_states.specs.RunoffTimes.{steps_done}
 use Rattle.run_engine.specs.Laterals.{IsRunoffAt}
-use Rattle.run_engine.proofs.InputLemmas.{earlier_of, ends_by, run_within, settings_begin}
-use Rattle.run_engine.proofs.KeptLemmas.{clock_next, finish_here}
+use Rattle.run_engine.proofs.InputLemmas.{ends_by, run_within, settings_begin}
+use Rattle.run_engine.proofs.KeptLemmas.{clock_next, finish_here, length_here}
+use Rattle.run_engine.proofs.OutfallLemmas.{length_next}
+use Rattle.run_engine.proofs.SubLemmas.{earlier_here}
 use Rattle.run_engine.proofs.SumsLemmas.{floods_count}
 use Rattle.run_engine.proofs.RunLemmas.{run_moment, run_options}
 use Rattle.run_engine.proofs.one_step.one_step.Goals as goal
@@ -28,15 +32,15 @@ advance_runoff-requires-clause-moment c =
     simp (to_z-of_z, finish)
     (ends_by (run_options c.args.project.now c.requires.kept.ready) c.next_span-span.ensures.range.finish_in)
 
-pub advance_runoff-requires-clause-runoff : goal.advance_runoff-requires-clause-runoff
-advance_runoff-requires-clause-runoff c =
+pub advance_runoff-requires-clause-earlier : goal.advance_runoff-requires-clause-earlier
+advance_runoff-requires-clause-earlier c =
     let moment : FitsSigned w64 c.args.kept.now.moment = search rules in
     let least : FitsSigned w64 c.args.kept.now.nets.least = search rules in
     let finish : FitsSigned w64 c.next_span-span.result.finish = search rules in
     let ends = simp (to_z-of_z, moment, least) at c.next_span-span.ensures.finish in
     let lasts = simp (to_z-of_z, moment, least) at c.next_span-span.ensures.length in
     simp (to_z-of_z, finish)
-    (earlier_of c.next_span-span.result.finish c.next_span-span.result.length c.requires.kept
+    (earlier_here c.next_span-span.result.finish c.next_span-span.result.length c.requires.kept
     (ends ∙ ap (λ (d : ℤ). c.args.kept.now.moment +ℤ d) (sym lasts)) c.next_span-span.ensures.range)
 
 pub find_laterals-requires-clause-calendar : goal.find_laterals-requires-clause-calendar
@@ -51,7 +55,7 @@ find_laterals-requires-clause-moment c =
     (run_within (run_options c.args.project.now c.requires.kept.ready) c.next_span-span.ensures.range.finish_in)
 
 pub find_laterals-requires-clause-runoff : goal.find_laterals-requires-clause-runoff
-find_laterals-requires-clause-runoff c = c.advance_runoff.ensures
+find_laterals-requires-clause-runoff c = c.advance_runoff.ensures.runoff
 
 pub find_laterals-requires-clause-places : goal.find_laterals-requires-clause-places
 find_laterals-requires-clause-places c = ap length c.as_mut_slice-laterals.ensures.value ∙ c.requires.kept.lateral_room
@@ -92,6 +96,24 @@ add_state-requires-clause-moment c =
     let e = simp (to_z-of_z, moment, least) at c.next_span-span.ensures.finish in
     simp (to_z-of_z, finish) (finish_here c.requires.kept e)
 
+pub add_load-requires-clause-length : goal.add_load-requires-clause-length
+add_load-requires-clause-length c =
+    let moment : FitsSigned w64 c.args.kept.now.moment = search rules in
+    let least : FitsSigned w64 c.args.kept.now.nets.least = search rules in
+    let length : FitsSigned w64 c.next_span-span.result.length = search rules in
+    let lasts = simp (to_z-of_z, moment, least) at c.next_span-span.ensures.length in
+    simp (to_z-of_z, length) (length_here c.requires.kept lasts ∙ length_next c.args.project.now c.args.kept.now.counts.steps)
+
+pub add_load-requires-clause-time : goal.add_load-requires-clause-time
+add_load-requires-clause-time c =
+    let length : FitsSigned w64 c.next_span-span.result.length = search rules in
+    let time = c.next_span-span.ensures.range.length_in in
+    simp (to_z-of_z, length) (record { from = time.least; to = time.most })
+
+pub returns-clause-since : goal.returns-clause-since
+returns-clause-since c =
+    subst (λ (k : ℕ). IsTotalFrom c.args.project.now (line_before c.args.project.now k) k c.add_account.new.since) (sym c.add_counts.ensures.steps) c.add_account.ensures.since
+
 pub returns-clause-kept : goal.returns-clause-kept
 returns-clause-kept c =
     let project = c.args.project.now in
@@ -116,10 +138,14 @@ returns-clause-kept c =
       lateral_room = ap length laterals ∙ c.find_laterals.auto.laterals ∙ ap length c.as_mut_slice-laterals.ensures.value ∙ kept.lateral_room;
       runoff =
           subst (λ (m : ℤ). IsRunoffAt project m c.advance_runoff.new.runoff) (sym (to_z-of_z w64 c.next_span-span.result.finish finish))
-          (simp (to_z-of_z, finish) at c.advance_runoff.ensures);
+          (simp (to_z-of_z, finish) at c.advance_runoff.ensures.runoff);
       setting_room = c.find_settings.ensures.places;
       flood_room = ap length floods ∙ ap length c.add_floods.ensures.floods.same ∙ floods_count project (c.args.kept.now.counts.steps + 1);
       summed = subst (λ (k : ℕ). AreSumsOf project (k + 1) c.add_state.new.sums) steps c.add_state.ensures.sums;
+      loaded = subst (λ (k : ℕ). AreLoadsAt project (k + 1) c.add_load.new.outfalls) steps c.add_load.ensures.outfalls;
+      rained =
+          subst (λ (m : ℤ). AreRunoffsOf project (steps_done project.options.wet_ms m) c.advance_runoff.new.subs) (sym (to_z-of_z w64 c.next_span-span.result.finish finish))
+          (simp (to_z-of_z, finish) at c.advance_runoff.ensures.summaries);
       totalled = subst (λ (k : ℕ). IsTotalAt project k c.add_account.new.total) steps c.add_account.ensures.total;
       counted = subst (λ (k : ℕ). AreCountsAt project k c.add_counts.new.counts) steps c.add_counts.ensures.counts;
     }
