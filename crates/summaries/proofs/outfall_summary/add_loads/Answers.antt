@@ -9,8 +9,7 @@ use Rattle.summaries.proofs.outfall_summary.add_loads.Goals as goal
 pub loop-k-preserved : goal.loop-k-preserved
 loop-k-preserved c =
     let k = c.loop-k.k in
-    let old = c.loop-k.invariant.0.left k (omega arith) in
-    (
+    let old = c.loop-k.invariant.0.left k (omega arith) in (
       rewritten_more c.loop-k.invariant.0 _ (omega (arith, c.loop-k.invariant.0.count)) (rw old at c.load.ensures.value),
       below_more _ k c.loop-k.invariant.1 (rw old at c.load.ensures.range),
     )
