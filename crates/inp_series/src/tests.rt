@@ -67,7 +67,10 @@ C1 2 3\nC3 0 x\n",
     ];
     assert!(rt; first.kind == CurveKind::Pump2 && first.points.as_slice() == points.as_slice());
     assert!(rt; second.kind == CurveKind::Storage && second.points.as_slice().len() == 1);
-    assert!(rt; read.states.as_slice()[2].kind == None);
+    let [_, _, third] = read.states.as_slice() else {
+        return Err(Fail::new("too few states"));
+    };
+    assert!(rt; third.kind == None);
     let expected = [
         (5, 401, b"FOO".as_slice()),
         (6, 203, b"1".as_slice()),
