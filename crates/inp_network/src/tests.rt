@@ -91,11 +91,11 @@ fn reads_links_and_their_faults(rt: HostRuntime) -> Result<(), Fail> {
     let alloc = rt.alloc();
     let lines = split_lines(
         alloc,
-        b"[CONDUITS]\nC1 A B 10 0.013 1 2 0.5 3\n[ORIFICES]\nR1 A B side 0.5 0.65 YES 0\n[WEIRS]\n\
-          W1 B A V-NOTCH 1 1 NO 2\n[JUNCTIONS]\nA 0\nB 0\n\
+        b"[CONDUITS]\nC1 A B 10 0.013 1 2 0.5 3\n[ORIFICES]\nSLIT1 A B side 0.5 0.65 YES 0\n[WEIRS]\n\
+          NOTCH1 B A V-NOTCH 1 1 NO 2\n[JUNCTIONS]\nA 0\nB 0\n\
           [CONDUITS]\nC2 A B 10 0.013 1 2 0 -1\nC3 A X 10 0.013 0 0\n[PUMPS]\nP1 A B *\nP2 A B K\n[ORIFICES]\n\
-          R2 A B TOP 0 0.65\nR3 A B SIDE 0 0.65 NO 1\n\
-          [WEIRS]\nW2 A B SIDEFLOW 0 1\nW3 A B TRANSVERSE 0 1 NO 3\n",
+          SLIT2 A B TOP 0 0.65\nSLIT3 A B SIDE 0 0.65 NO 1\n\
+          [WEIRS]\nNOTCH2 A B SIDEFLOW 0 1\nNOTCH3 A B TRANSVERSE 0 1 NO 3\n",
     )?;
     let known = known_of(alloc, FlowUnits::Cfs, &lines)?;
     let mut links = List::new(alloc);

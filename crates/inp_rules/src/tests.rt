@@ -81,9 +81,9 @@ fn binds_or_stronger_than_and(rt: HostRuntime) -> Result<(), Fail> {
     let alloc = rt.alloc();
     let lines = split_lines(
         alloc,
-        b"[CONTROLS]\nRULE R1\nIF NODE J1 DEPTH > 1\nOR NODE J1 DEPTH < 0.5\nAND NODE J2 DEPTH > 1\n\
+        b"[CONTROLS]\nRULE FILLS\nIF NODE J1 DEPTH > 1\nOR NODE J1 DEPTH < 0.5\nAND NODE J2 DEPTH > 1\n\
           THEN PUMP P1 STATUS = OFF\nAND CONDUIT C1 STATUS = OPEN\nELSE PUMP P1 SETTING = 0.5\n\
-          PRIORITY 2\n\nrule R2\nif simulation time > 1\nthen pump P1 setting = 1\n",
+          PRIORITY 2\n\nrule DRAINS\nif simulation time > 1\nthen pump P1 setting = 1\n",
     )?;
     let known = some_names(alloc)?;
     let mut rules = List::new(alloc);
@@ -92,8 +92,8 @@ fn binds_or_stronger_than_and(rt: HostRuntime) -> Result<(), Fail> {
     let first: &[usize] = &[2, 1, 2, 1];
     let second: &[usize] = &[1, 1, 0];
     let expected = [
-        (b"R1".as_slice(), first, Some(2_000_000)),
-        (b"R2".as_slice(), second, None),
+        (b"FILLS".as_slice(), first, Some(2_000_000)),
+        (b"DRAINS".as_slice(), second, None),
     ];
     assert!(rt; rules.as_slice().len() == 2);
     for (rule, entry) in rules.as_slice().iter().zip(expected.iter()) {
