@@ -13,8 +13,8 @@ pub struct Civil {
     pub day: u32,
 }
 
-/// The days from 1970-01-01 to a day of the years 1900 to 2200, negative before 1970, and none where the calendar has no such
-/// day or its year is another (this project's profile).
+/// The days from 1970-01-01 to a day of the years 1900 to 2200, negative before 1970, and none where the calendar has
+/// no such day or its year is another (this project's profile).
 pub fn day_of(year: u32, month: u32, day: u32) -> Option<i64>
     ensures real { IsSome result ↔ IsRealDay year month day }
     ensures number { IfSome result (λ number. number ≡ day_number year month day) }

@@ -43,7 +43,8 @@ outfall_at h after n = left_by (is_outfall_rule (node_law_at h n).rule) (gain_at
 
 abbrev pub error_at : Hydraulics → (before after : Nets) → ℕ → ℤ
 error_at h before after n =
-    error_by (is_outfall_rule (node_law_at h n).rule) (gain_at after n) (flood_at h after n) (change_at h before after n)
+    error_by (is_outfall_rule (node_law_at h n).rule) (gain_at after n) (flood_at h after n)
+    (change_at h before after n)
 
 -- ---- a link
 -- the volume of water in it in a state, and how much more it holds than before

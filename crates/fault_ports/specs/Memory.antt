@@ -33,7 +33,8 @@ fresh_source bytes fails most = record { left = bytes; fails = fails; most = mos
 
 -- a sink that holds nothing, of which no call was made yet
 abbrev pub empty_sink : ℕ → List ℕ → ℕ → SinkState
-empty_sink room fails most = record { held = []; room = room; fails = fails; most = most; calls = 0; faults = no_faults }
+empty_sink room fails most =
+    record { held = []; room = room; fails = fails; most = most; calls = 0; faults = no_faults }
 
 -- what a failed call leaves of a source: nothing was read
 abbrev pub failed_source : SourceState → SourceState

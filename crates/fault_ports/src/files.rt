@@ -105,7 +105,8 @@ fn path_of(name: &Text) -> Option<&str>
 // Reads once from an open file.
 fn read_from<R: Files>(file: &mut Option<R::File>, buf: &mut [u8]) -> Result<usize, Failed>
     ensures within { IfOk result (λ count. count ≤ length buf.new) }
-    ensures bytes { ReadConsumes (told_by R.File.remaining file.old) (told_by R.File.remaining file.new) result buf.new }
+    ensures bytes { ReadConsumes (told_by R.File.remaining file.old)
+        (told_by R.File.remaining file.new) result buf.new }
     ensures file { has_file file.new ≡ has_file file.old }
     ensures opened { OnOk result (has_file file.new ≡ true) }
 {
@@ -199,7 +200,8 @@ impl<'a, R: Files> Sink for FileSink<'a, R> {
 fn write_to<R: Files>(file: &mut Option<R::File>, piece: &[u8]) -> Result<usize, Failed>
     ensures within { IfOk result (λ count. count ≤ length piece.now) }
     ensures moves { IfOk result (λ count. 0 < length piece.now → 0 < count) }
-    ensures bytes { WriteAppends (told_by R.File.contents file.old) (told_by R.File.contents file.new) result piece.now }
+    ensures bytes { WriteAppends (told_by R.File.contents file.old)
+        (told_by R.File.contents file.new) result piece.now }
     ensures file { has_file file.new ≡ has_file file.old }
     ensures opened { OnOk result (has_file file.new ≡ true) }
 {

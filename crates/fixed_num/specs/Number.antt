@@ -1,5 +1,7 @@
 -- The grammar of numbers in a text, and the number that a text stands for (this project's profile).
-use Rattle.std.specs.Prelude.{◌≡◌, ℕ, ◌+◌, ◌-◌, ◌*◌, ◌^◌, ◌<◌, ◌≤◌, Bool, true, false, ◌&&◌, ◌||◌, ◌==◌, nat_lt, nat_le, IsTrue, if◌then◌else◌, ◌⊎◌, ⊤, List, [], ◌∷◌, ◌++◌, length, drop, ℤ, pos, negsuc, neg_ℤ, ◌-ℤ◌}
+use Rattle.std.specs.Prelude.{◌≡◌, ℕ, ◌+◌, ◌-◌, ◌*◌, ◌^◌, ◌<◌, ◌≤◌, Bool, true, false, ◌&&◌}
+use Rattle.std.specs.Prelude.{◌||◌, ◌==◌, nat_lt, nat_le, IsTrue, if◌then◌else◌, ◌⊎◌, ⊤, List}
+use Rattle.std.specs.Prelude.{[], ◌∷◌, ◌++◌, length, drop, ℤ, pos, negsuc, neg_ℤ, ◌-ℤ◌}
 use Rattle.std.specs.Char.{is_ascii_digit}
 use Rattle.std.specs.List.{take_while, prefix_len}
 use Rattle.std.specs.declared.option.Option.{Option}
@@ -35,7 +37,9 @@ pub data IsFraction : List ℕ → List ℕ → Type 0 where
 -- `e` or `E`, a sign and one digit, or nothing; and the power of ten that it writes.
 pub data IsPower : List ℕ → ℤ → Type 0 where
   no_power : IsPower [] (pos 0)
-  with_power : (mark digit : ℕ) (sign : List ℕ) (negative : Bool) → (mark ≡ 101) ⊎ (mark ≡ 69) → IsSign sign negative → IsTrue (is_ascii_digit digit) → IsPower (mark ∷ (sign ++ digit ∷ [])) (signed negative (pos (digit - 48)))
+  with_power : (mark digit : ℕ) (sign : List ℕ) (negative : Bool) → (mark ≡ 101) ⊎ (mark ≡ 69)
+      → IsSign sign negative → IsTrue (is_ascii_digit digit)
+      → IsPower (mark ∷ (sign ++ digit ∷ [])) (signed negative (pos (digit - 48)))
 
 -- The text is a number: an optional sign, digits with at most one point among, before or after them, at least
 -- one of them, at most 18 once leading zeros are dropped, at most 18 after the point, and a power of one digit
@@ -99,8 +103,13 @@ power_of (c ∷ cs) = if c == 101 || c == 69 then exponent_of (is_minus cs) (pas
 unfoldable pub joined : Bool → List ℕ → List ℕ → Option ℤ → Option Number
 joined negative whole fraction None = None
 joined negative whole fraction (Some written) =
-    if nat_lt 0 (length (whole ++ fraction)) && nat_le (length fraction) 18 && nat_lt (digits_after 0 (whole ++ fraction)) (10 ^ 18)
-    then Some (record { negative = negative; digits = digits_after 0 (whole ++ fraction); power = written -ℤ pos (length fraction) })
+    if nat_lt 0 (length (whole ++ fraction)) && nat_le (length fraction) 18
+    && nat_lt (digits_after 0 (whole ++ fraction)) (10 ^ 18)
+    then Some (record {
+      negative = negative;
+      digits = digits_after 0 (whole ++ fraction);
+      power = written -ℤ pos (length fraction);
+    })
     else None
 
 -- The number that the text stands for, if it is one.

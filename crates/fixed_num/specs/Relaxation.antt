@@ -1,4 +1,5 @@
--- Under-relaxation of successive trials (Reference Manual volume II, chapter 3; the rounding is this project's profile).
+-- Under-relaxation of successive trials (Reference Manual volume II, chapter 3; the rounding is this project's
+-- profile).
 use Rattle.std.specs.Prelude.{Bool, if◌then◌else◌, ℤ, pos, ◌+ℤ◌}
 use Rattle.fixed_num.specs.Rounding.{quo_of}
 

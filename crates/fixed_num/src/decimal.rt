@@ -31,7 +31,8 @@ pub fn scaled_decimal(text: &[u8], unit: &Unit) -> Option<i64>
 
 /// A text is one number only.
 pub fn number_is_unique()
-    ensures { (text : List ℕ) (b c : Bool) (m n : ℕ) (e f : ℤ) → IsNumber text b m e → IsNumber text c n f → (b ≡ c) × (m ≡ n) × (e ≡ f) }
+    ensures { (text : List ℕ) (b c : Bool) (m n : ℕ) (e f : ℤ) → IsNumber text b m e → IsNumber text c n f
+        → (b ≡ c) × (m ≡ n) × (e ≡ f) }
 {}
 
 /// A text has one value only in a unit.

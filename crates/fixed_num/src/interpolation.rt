@@ -24,8 +24,8 @@ pub fn lerp(x0: i64, y0: i64, x1: i64, y1: i64, x: i64) -> i64
     (y0 as i128 + share(rise, part, run)) as i64
 }
 
-// What `part` of `run` is of `rise`, rounded to the nearest. The product may need all of 128 bits, and so is formed without
-// its sign.
+// What `part` of `run` is of `rise`, rounded to the nearest. The product may need all of 128 bits, and so is formed
+// without its sign.
 #[tactic(auto, using(crate::proofs::Bounds::casts))]
 fn share(rise: i128, part: i128, run: i128) -> i128
     requires rise { IsWithin (2 ^ 64 - 1) rise }

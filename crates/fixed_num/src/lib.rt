@@ -3,9 +3,9 @@
 //!
 //! `quo` is the only rounding of the engine's formulas: its answer is the number nearest to the exact quotient, ties
 //! away from zero (`specs/Rounding.antt`). `root2` and `root3` give the greatest root (`specs/Roots.antt`), `lerp` the
-//! value of a line between two points (`specs/Interpolation.antt`), `cut` a number brought into a range and `relaxed` the
-//! value of a trial (`specs/Relaxation.antt`). The ranges of stored values have their names in `specs/Ranges.antt`, sums
-//! and look-ups in lists theirs in `specs/Sums.antt` and `specs/Lists.antt`.
+//! value of a line between two points (`specs/Interpolation.antt`), `cut` a number brought into a range and `relaxed`
+//! the value of a trial (`specs/Relaxation.antt`). The ranges of stored values have their names in `specs/Ranges.antt`,
+//! sums and look-ups in lists theirs in `specs/Sums.antt` and `specs/Lists.antt`.
 //!
 //! `scaled_decimal` gives the value that a text stands for in a unit, and `None` exactly where the text is no number
 //! (`specs/Number.antt`) or its value leaves the unit's range (`specs/Decimal.antt`). `put_decimal` writes a value in

@@ -2,7 +2,8 @@ ghost use Rattle.std.specs.Prelude.{◌≡◌, ◌^◌, ◌≤◌, length, min, 
 ghost use Rattle.std.specs.Char.{is_ascii_digit};
 ghost use Rattle.std.specs.List.{take_while};
 ghost use Rattle.fixed_num.specs.Ranges.{IsWithin};
-ghost use Rattle.fixed_num.specs.Number.{AreDigits, IsSmall, digits_after, exponent_of, fraction_of, is_minus, joined, number_of, past_digits, past_fraction, past_sign, power_of};
+ghost use Rattle.fixed_num.specs.Number.{AreDigits, IsSmall, digits_after, exponent_of, fraction_of, is_minus};
+ghost use Rattle.fixed_num.specs.Number.{joined, number_of, past_digits, past_fraction, past_sign, power_of};
 
 /// The number that a text stands for: `digits * 10 ^ power`, below 0 where `negative`.
 #[derive(Clone, Copy, Debug)]

@@ -1,4 +1,5 @@
-ghost use Rattle.std.specs.Prelude.{◌≡◌, ℕ, ◌+◌, ◌*◌, ◌/◌, ◌%◌, ◌^◌, ◌<◌, ◌≤◌, ◌++◌, length, take, drop, decimal, ℤ, pos, ◌*ℤ◌};
+ghost use Rattle.std.specs.Prelude.{◌≡◌, ℕ, ◌+◌, ◌*◌, ◌/◌, ◌%◌, ◌^◌, ◌<◌, ◌≤◌, ◌++◌};
+ghost use Rattle.std.specs.Prelude.{length, take, drop, decimal, ℤ, pos, ◌*ℤ◌};
 ghost use Rattle.fixed_num.specs.Decimal.{decimal_text, last_digits, placed};
 ghost use Rattle.fixed_num.specs.Ranges.{IsWithin};
 ghost use Rattle.fixed_num.specs.Rounding.{quo_of};

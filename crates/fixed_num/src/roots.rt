@@ -45,8 +45,8 @@ pub fn root3_is_unique()
     ensures { (a r s : ℤ) → IsRoot3 a r → IsRoot3 a s → r ≡ s }
 {}
 
-// The square root of 64 bits. A step of Newton's from any number leaves one that is not below the root; the first step is
-// taken from the power of two nearest to the root, where it needs no division.
+// The square root of 64 bits. A step of Newton's from any number leaves one that is not below the root; the first step
+// is taken from the power of two nearest to the root, where it needs no division.
 fn root2_short(a: u64) -> u64
     ensures at_most { result * result ≤ a }
     ensures below_next { a < (result + 1) * (result + 1) }

@@ -1,4 +1,5 @@
-ghost use Rattle.std.specs.Prelude.{◌≡◌, ℕ, ◌+◌, ◌*◌, ◌^◌, ◌<◌, ◌≤◌, ℤ, pos, neg_ℤ, ◌<ℤ◌, IsTrue, IsFalse, if◌then◌else◌};
+ghost use Rattle.std.specs.Prelude.{◌≡◌, ℕ, ◌+◌, ◌*◌, ◌^◌, ◌<◌, ◌≤◌, ℤ, pos, neg_ℤ};
+ghost use Rattle.std.specs.Prelude.{◌<ℤ◌, IsTrue, IsFalse, if◌then◌else◌};
 ghost use Rattle.fixed_num.specs.Rounding.{IsNearest, quo_of, rounded as rounded_of};
 
 /// The whole number nearest to `a / b`, ties away from zero.

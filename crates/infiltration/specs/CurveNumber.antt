@@ -18,7 +18,8 @@ IsRoom room = IsBetween (pos 0) room (pos 25_146_000_000)
 unfoldable pub greatest_room_of : (cn6 : ℤ) → ℤ
 greatest_room_of cn6 = quo_of (pos 25_400_000_000_000_000) cn6 -ℤ pos 254_000_000
 
--- what the soil has taken once this rain of an event has fallen, by the room at the event's start; 0 where there was no rain
+-- what the soil has taken once this rain of an event has fallen, by the room at the event's start; 0 where there was no
+-- rain
 unfoldable pub soaked_of : (rain event_room : ℤ) → ℤ
 soaked_of rain event_room = rain -ℤ quo_of (rain *ℤ rain) (rain +ℤ event_room)
 
@@ -51,7 +52,13 @@ abbrev pub pause_after : CurveState → (room ms : ℤ) → CurveState
 pause_after state room ms =
     if int_le event_gap (state.dry +ℤ ms)
     then record { room = room; event_room = room; rain = pos 0; taken = pos 0; dry = state.dry +ℤ ms }
-    else record { room = room; event_room = state.event_room; rain = state.rain; taken = state.taken; dry = state.dry +ℤ ms }
+    else record {
+      room = room;
+      event_room = state.event_room;
+      rain = state.rain;
+      taken = state.taken;
+      dry = state.dry +ℤ ms;
+    }
 
 unfoldable pub dry_after : (cn6 dry : ℤ) → CurveState → (ms : ℤ) → CurveState
 dry_after cn6 dry state ms = pause_after state (dried_room_of cn6 dry state.room ms) ms
@@ -75,7 +82,8 @@ number_start cn6 = record {
   dry = pos 0;
 }
 
--- a state of a hotstart whose rooms are brought to at most the greatest room, and then what was taken to what its rain can have given
+-- a state of a hotstart whose rooms are brought to at most the greatest room, and then what was taken to what its rain
+-- can have given
 unfoldable pub number_opening : (cn6 : ℤ) → CurveState → CurveState
 number_opening cn6 state =
     let event_room = int_min state.event_room (greatest_room_of cn6) in
@@ -87,8 +95,8 @@ number_opening cn6 state =
       dry = state.dry;
     }
 
--- a state of rain and time up to `most`, whose rooms are at most the greatest room, and which has taken at most what its
--- rain gives
+-- a state of rain and time up to `most`, whose rooms are at most the greatest room, and which has taken at most what
+-- its rain gives
 pub record IsCurveState (most cn6 : ℤ) (state : CurveState) : Type 0 where
   pub room : IsBetween (pos 0) state.room (greatest_room_of cn6)
   pub event_room : IsBetween (pos 0) state.event_room (greatest_room_of cn6)

@@ -1,5 +1,5 @@
--- Infiltration by the modified Horton method (Reference Manual volume I, chapter 4; the drying and the rounding are this
--- project's profile). Rates are nm/h, depths nm, times ms, and the decay is in millionths of 1/h.
+-- Infiltration by the modified Horton method (Reference Manual volume I, chapter 4; the drying and the rounding are
+-- this project's profile). Rates are nm/h, depths nm, times ms, and the decay is in millionths of 1/h.
 use Rattle.std.specs.Prelude.{◌≡◌, ◌^◌, if◌then◌else◌, int_lt, ℤ, pos, ◌+ℤ◌, ◌-ℤ◌, ◌*ℤ◌, ◌<ℤ◌, ◌≤ℤ◌}
 use Rattle.std.specs.Int.{int_min, int_max}
 use Rattle.fixed_num.specs.Ranges.{IsBetween, IsCoefficient, IsDryingTime, IsRate, IsSmallDepth, cut_of}
@@ -12,8 +12,8 @@ use Rattle.infiltration.specs.declared.states.HortonState.{HortonState}
 unfoldable pub rate_of : HortonCurve → (above : ℤ) → ℤ
 rate_of curve above = cut_of (curve.max -ℤ quo_of (curve.decay6 *ℤ above) (pos 1_000_000)) curve.min curve.max
 
--- what the soil takes at most in a step where `most` is what its rate takes: what the least rate takes and what is left of
--- the volume, of which 0 is no limit
+-- what the soil takes at most in a step where `most` is what its rate takes: what the least rate takes and what is left
+-- of the volume, of which 0 is no limit
 unfoldable pub within_volume_of : HortonCurve → (above most ms : ℤ) → ℤ
 within_volume_of curve above most ms =
     if int_lt (pos 0) curve.volume then int_min most (depth_of curve.min ms +ℤ curve.volume -ℤ above) else most
@@ -49,7 +49,8 @@ horton_start = record { above = pos 0 }
 
 -- a state of a hotstart brought into the volume
 unfoldable pub horton_opening : HortonCurve → HortonState → HortonState
-horton_opening curve state = record { above = if int_lt (pos 0) curve.volume then int_min state.above curve.volume else state.above }
+horton_opening curve state =
+    record { above = if int_lt (pos 0) curve.volume then int_min state.above curve.volume else state.above }
 
 -- the numbers of the method lie in their ranges, and the least rate is at most the greatest
 pub record IsHortonCurve (curve : HortonCurve) : Type 0 where

@@ -4,8 +4,10 @@ use Rattle.std.specs.Prelude.{◌^◌, ⊤, ℤ, pos, ◌+ℤ◌, ◌*ℤ◌}
 use Rattle.fixed_num.specs.Ranges.{IsBetween, IsDryingTime}
 use Rattle.net_types.specs.declared.hydrology.Infil.{Infil}
 use Rattle.net_types.specs.declared.hydrology.Infil.TheVariants.{Horton as HortonBy, Number as NumberBy}
-use Rattle.infiltration.specs.CurveNumber.{AreCurveNumbersUpTo, IsCurveNumber, IsCurveState, number_after, number_opening, number_start, number_taken_of}
-use Rattle.infiltration.specs.Horton.{IsHortonCurve, IsHortonState, horton_after, horton_opening, horton_start, horton_taken_of}
+use Rattle.infiltration.specs.CurveNumber.{AreCurveNumbersUpTo, IsCurveNumber, IsCurveState, number_after}
+use Rattle.infiltration.specs.CurveNumber.{number_opening, number_start, number_taken_of}
+use Rattle.infiltration.specs.Horton.{IsHortonCurve, IsHortonState, horton_after}
+use Rattle.infiltration.specs.Horton.{horton_opening, horton_start, horton_taken_of}
 use Rattle.infiltration.specs.declared.method.Method.{Method}
 use Rattle.infiltration.specs.declared.method.Method.TheVariants.{Horton as HortonOf, Number as NumberOf}
 use Rattle.infiltration.specs.declared.states.CurveState.{CurveState}
@@ -98,7 +100,8 @@ IsStateUpTo most infil = IsStateBy most (method_of infil)
 abbrev pub IsInfilState : Infil → InfilState → Type 0
 IsInfilState = IsStateUpTo (pos (10 ^ 16))
 
--- whatever bounds the numbers of a state, over a step they grow by at most 2,778 a millisecond: as fast as the fastest rain
+-- whatever bounds the numbers of a state, over a step they grow by at most 2,778 a millisecond: as fast as the fastest
+-- rain
 abbrev pub GrowsSlowly : Infil → (ms : ℤ) → (before after : InfilState) → Type 0
 GrowsSlowly infil ms before after =
     (most : ℤ) → IsStateUpTo most infil before → IsStateUpTo (most +ℤ pos 2_778 *ℤ ms) infil after

@@ -2,7 +2,9 @@
 ghost use Rattle.std.specs.Prelude.{◌≡◌, ◌*◌, ◌^◌, ℤ, pos, ◌+ℤ◌, ◌*ℤ◌, ◌<ℤ◌, ◌≤ℤ◌};
 ghost use Rattle.fixed_num.specs.Ranges.{IsBetween, IsDryingTime};
 ghost use Rattle.infiltration.specs.Depths.{IsRunoffStep};
-ghost use Rattle.infiltration.specs.CurveNumber.{IsCurveNumber, IsCurveState, IsRoom, dried_room_of, dry_after, greatest_room_of, number_after, number_opening, number_start, number_taken_of, pause_after, rain_after, rain_taken_of, soaked_of};
+ghost use Rattle.infiltration.specs.CurveNumber.{IsCurveNumber, IsCurveState, IsRoom, dried_room_of, dry_after};
+ghost use Rattle.infiltration.specs.CurveNumber.{greatest_room_of, number_after, number_opening, number_start};
+ghost use Rattle.infiltration.specs.CurveNumber.{number_taken_of, pause_after, rain_after, rain_taken_of, soaked_of};
 
 use crate::states::CurveState;
 use fixed_num::quo;

@@ -2,7 +2,8 @@
 ghost use Rattle.std.specs.Prelude.{◌≡◌, ◌*◌, ◌^◌, ℤ, pos, ◌+ℤ◌, ◌*ℤ◌, ◌<ℤ◌, ◌≤ℤ◌};
 ghost use Rattle.fixed_num.specs.Ranges.{IsBetween};
 ghost use Rattle.infiltration.specs.Depths.{IsRunoffStep};
-ghost use Rattle.infiltration.specs.Horton.{IsHortonCurve, IsHortonState, dry_above_of, horton_after, horton_opening, horton_taken_of, rate_of, within_volume_of, wet_above_of, wet_taken_of};
+ghost use Rattle.infiltration.specs.Horton.{IsHortonCurve, IsHortonState, dry_above_of, horton_after, horton_opening};
+ghost use Rattle.infiltration.specs.Horton.{horton_taken_of, rate_of, within_volume_of, wet_above_of, wet_taken_of};
 
 use crate::depths::depth_over;
 use crate::states::HortonState;

@@ -3,7 +3,9 @@ ghost use Rattle.std.specs.Prelude.{◌≡◌, ◌*◌, ◌^◌, ℤ, pos, ◌*�
 ghost use Rattle.fixed_num.specs.Ranges.{IsBetween};
 ghost use Rattle.net_types.specs.Ranges.{InfilInRange};
 ghost use Rattle.infiltration.specs.Depths.{IsRunoffStep};
-ghost use Rattle.infiltration.specs.Infiltration.{GrowsSlowly, HasNumbersUpTo, IsInfil, IsInfilState, IsOfMethod, IsStateUpTo, horton_in, number_in, opening_of, start_of, state_after, taken_of};
+ghost use Rattle.infiltration.specs.Infiltration.{GrowsSlowly, HasNumbersUpTo, IsInfil, IsInfilState};
+ghost use Rattle.infiltration.specs.Infiltration.{IsOfMethod, IsStateUpTo, horton_in, number_in};
+ghost use Rattle.infiltration.specs.Infiltration.{opening_of, start_of, state_after, taken_of};
 
 use crate::method::{Method, method_in};
 use crate::states::{CurveState, HortonState, InfilState};
@@ -24,8 +26,8 @@ pub fn start_state(infil: &Infil) -> InfilState
     }
 }
 
-/// The state of infiltration with which a run begins that has this state from a hotstart: brought into the ranges of the
-/// infiltration.
+/// The state of infiltration with which a run begins that has this state from a hotstart: brought into the ranges of
+/// the infiltration.
 ///
 /// The state is of the infiltration's method, and its numbers are 0 to 10^16; none of them gets greater.
 /// Source: this project's profile.
@@ -44,9 +46,9 @@ pub fn opening_state(infil: &Infil, state: InfilState) -> InfilState
 
 /// A step of infiltration: the depth that the soil takes of the water that is available, and the state after it.
 ///
-/// `rain` is the depth of rain in the step, which is a part of `available`, both in nm; `ms` is the length of the step. The
-/// water available is at most 2·10^16 nm, and the state is one that `IsInfilState` allows. Where the rain is that of a rate,
-/// the state's numbers grow by at most 2,778 a millisecond.
+/// `rain` is the depth of rain in the step, which is a part of `available`, both in nm; `ms` is the length of the step.
+/// The water available is at most 2·10^16 nm, and the state is one that `IsInfilState` allows. Where the rain is that
+/// of a rate, the state's numbers grow by at most 2,778 a millisecond.
 /// Source: Reference Manual volume I, chapter 4; the drying and the rounding are this project's profile.
 pub fn infiltrate(infil: &Infil, state: &mut InfilState, rain: i64, available: i64, ms: i64) -> i64
     requires infil { IsInfil infil.now }

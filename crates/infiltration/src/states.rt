@@ -9,8 +9,8 @@ pub struct HortonState {
     pub above: i64,
 }
 
-/// The state of the curve number method: the room that is left in the soil, the room at the start of the rain event, the
-/// rain of the event and what the soil has taken of it, all in nm, and the time since the last rain, in ms.
+/// The state of the curve number method: the room that is left in the soil, the room at the start of the rain event,
+/// the rain of the event and what the soil has taken of it, all in nm, and the time since the last rain, in ms.
 ///
 /// Source: Reference Manual volume I, chapter 4.
 #[derive(Clone, Copy, Debug, PartialEq, Eq)]

@@ -6,7 +6,6 @@ use Rattle.std.specs.Ordering.{int_eq}
 use Rattle.net_types.specs.declared.faults.FaultKind.{FaultKind}
 use Rattle.net_types.specs.declared.faults.FaultKind.TheVariants as fault_kind
 use Rattle.net_types.specs.declared.options.FlowUnits.{FlowUnits}
-use Rattle.net_types.specs.Faults.{number_of}
 use Rattle.fixed_num.specs.Decimal.{scaled_of}
 use Rattle.fixed_num.specs.Rounding.{quo_of}
 use Rattle.inp_values.specs.declared.quantities.Quantity.TheVariants.{Raw, Coefficient}
@@ -16,6 +15,7 @@ use Rattle.inp_values.specs.Switch.{switch_of}
 use Rattle.inp_values.specs.Units.{is_us, unit_for}
 use Rattle.inp_lines.specs.declared.fault.Fault.{Fault}
 use Rattle.inp_lines.specs.declared.names.Naming.{Naming}
+use Rattle.inp_lines.specs.Faults.{fault_of_kind}
 use Rattle.inp_lines.specs.Readings.{and_then, new_name_of}
 use Rattle.inp_forms.specs.declared.item.Objects.{Objects}
 use Rattle.inp_forms.specs.declared.item.Objects.TheVariants as objects
@@ -25,10 +25,6 @@ use Rattle.inp_forms.specs.declared.item.What.{What}
 use Rattle.inp_forms.specs.declared.item.What.TheVariants as what
 use Rattle.inp_forms.specs.Context.{Context, object_number}
 use Rattle.inp_forms.specs.Keywords.{keyword_of, word_fault}
-
--- a fault of a kind at a place
-abbrev pub fault_of : FaultKind → ℕ → Fault
-fault_of kind place = record { number = number_of kind; place = place }
 
 -- a number that is this one at least
 abbrev pub amount_from : ℤ → Option ℤ → Option ℤ
@@ -157,7 +153,7 @@ checked naming item value = if is_own item then and_then (new_name_of naming) (�
 
 abbrev pub value_from : Naming → What → FaultKind → ℕ → Option Value → Result Value Fault
 value_from naming item kind place (Some value) = checked naming item value
-value_from naming item kind place None = Err (fault_of kind place)
+value_from naming item kind place None = Err (fault_of_kind kind place)
 
 -- the value of an item, or its fault: the text isn't what it has to be, or else a name isn't new
 unfoldable pub value_of : Context → Naming → What → List ℕ → ℕ → Result Value Fault

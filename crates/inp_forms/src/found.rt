@@ -7,14 +7,13 @@ ghost use Rattle.inp_forms.specs.Keywords.{keyword_of};
 ghost use Rattle.inp_forms.specs.Values.{checked, found_of, is_star, maybe_of, profile_or_name, pump_curve_of};
 ghost use Rattle.inp_forms.specs.Values.{value_of, wrong_of};
 
-use crate::faults::fault;
 use crate::item::{Objects, Value, What};
 use crate::known::{Known, object_number};
 use crate::numbers::{
     amount_from, amount_only, halves, hours_between, number, weir_coefficient, whole_between,
 };
 use crate::words::{Words, word_fault, word_of};
-use inp_lines::{Fault, Naming, new_name};
+use inp_lines::{Fault, Naming, fault_of_kind, new_name};
 use inp_values::yes_no;
 use net_types::FaultKind;
 
@@ -32,7 +31,7 @@ pub fn read_value<'a>(
 {
     match found_value(known, what, text) {
         Some(value) => checked(naming, what, value),
-        None => Err(fault(wrong(known, what, text), place)),
+        None => Err(fault_of_kind(wrong(known, what, text), place)),
     }
 }
 

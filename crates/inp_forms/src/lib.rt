@@ -8,7 +8,6 @@
 //! (`Known`, `specs/Context`).
 #![tactic(auto)]
 
-mod faults;
 mod form;
 mod found;
 mod getters;
@@ -21,7 +20,6 @@ mod numbers;
 mod tests;
 mod words;
 
-pub use faults::fault;
 pub use form::{Form, name_row, read_row};
 pub use found::{found_value, read_value};
 pub use getters::{amount, choice, index, index_or_none, is_on, value_at};

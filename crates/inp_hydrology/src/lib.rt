@@ -4,8 +4,8 @@
 //! Each section is a table of the items of its lines, which its file in `src/` has; `specs/Gages`,
 //! `specs/Subcatchments`, `specs/Areas`, `specs/Soil` and `specs/Evaporation` say how the record is made of their
 //! values. A subcatchment is read without the lines of other sections that say more of it; these are read as lists of
-//! their own, by the number of the subcatchment, and `place_areas` and `place_infil` give them to it. The laws say that lines without a fault mean what is read of them,
-//! and that what they mean lies in its ranges.
+//! their own, by the number of the subcatchment, and `place_areas` and `place_infil` give them to it. The laws say that
+//! lines without a fault mean what is read of them, and that what they mean lies in its ranges.
 #![tactic(auto)]
 
 mod areas;

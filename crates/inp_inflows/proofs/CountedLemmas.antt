@@ -13,7 +13,7 @@ use Rattle.inp_lines.specs.declared.line.SectionName.{SectionName}
 use Rattle.inp_lines.specs.declared.names.Naming.TheVariants.{First}
 use Rattle.inp_lines.specs.declared.reading.Reading.{Reading}
 use Rattle.inp_lines.specs.declared.reading.Reading.TheVariants.{Other, Record, Faulty}
-use Rattle.inp_lines.specs.Faults.{too_few_of}
+use Rattle.inp_lines.specs.Faults.{too_few_of, fault_of_kind}
 use Rattle.inp_lines.specs.Gather.{gather, records_in, faults_in}
 use Rattle.inp_lines.specs.Laws.{Gives}
 use Rattle.inp_lines.specs.Readings.{is_long, and_then, reading_from}
@@ -25,7 +25,6 @@ use Rattle.inp_forms.specs.Context.{Context}
 use Rattle.inp_forms.specs.Forms.{RowForm, row_reading}
 use Rattle.inp_forms.specs.Items.{values_of}
 use Rattle.inp_forms.specs.Meaning.{IsMade}
-use Rattle.inp_forms.specs.Values.{fault_of}
 use Rattle.inp_forms.proofs.ItemLemmas.{values_mean, values_unique}
 use Rattle.inp_inflows.specs.Counted.{CountedForm, MeanCounted, count_after, counted_at, counted_fault, counted_of, counted_reading}
 use Rattle.inp_inflows.specs.Counted.{is_counted, is_full, is_line_of, is_short, reading_with}
@@ -69,7 +68,7 @@ module _ {R : Type 0} (form : CountedForm R) where
 
   module _ (known : Context) where
     -- a line gives a record only where it counts as one and there is room
-    given_with : (line : Line) (full of_kind short : Bool) (rest : Reading R) → length (records_in (cond of_kind (cond short (Faulty (too_few_of line.tokens)) (cond full (Faulty (fault_of OverLimit 0)) rest)) Other)) ≤ cond full 0 (cond (of_kind && not short) 1 0)
+    given_with : (line : Line) (full of_kind short : Bool) (rest : Reading R) → length (records_in (cond of_kind (cond short (Faulty (too_few_of line.tokens)) (cond full (Faulty (fault_of_kind OverLimit 0)) rest)) Other)) ≤ cond full 0 (cond (of_kind && not short) 1 0)
     given_with line true false short rest = omega arith
     given_with line false false short rest = omega arith
     given_with line true true true rest = omega arith
@@ -98,7 +97,7 @@ module _ {R : Type 0} (form : CountedForm R) where
 
     -- ---- faults
     no_kind : (full : Bool) (line : Line) (here : Bool) → form.is_of line.section ≡ here → here ≡ false → faults_in line (reading_with known form full line) ≡ []
-    no_kind full line here e h = ap (λ b. faults_in line (cond (b && not (is_long line)) (cond (is_short form line) (Faulty (too_few_of line.tokens)) (cond full (Faulty (fault_of OverLimit 0)) (row_reading known First form.row line))) Other)) (e ∙ h)
+    no_kind full line here e h = ap (λ b. faults_in line (cond (b && not (is_long line)) (cond (is_short form line) (Faulty (too_few_of line.tokens)) (cond full (Faulty (fault_of_kind OverLimit 0)) (row_reading known First form.row line))) Other)) (e ∙ h)
 
     pub faults_counted : FaultsIn form.is_of (counted_fault known form)
     unfolding counted_reading
@@ -128,7 +127,7 @@ module _ {R : Type 0} (form : CountedForm R) where
       go true e none = absurd (cc)
       go false e none = row_given line (values_of known First form.row.items line.tokens) refl of_kind none
 
-    gives_with : (line : Line) (full of_kind short : Bool) → is_line_of form line ≡ of_kind → faults_in line (cond of_kind (cond short (Faulty (too_few_of line.tokens)) (cond full (Faulty (fault_of OverLimit 0)) (row_reading known First form.row line))) Other) ≡ [] → Gives Is (is_line_of form) line (records_in (cond of_kind (cond short (Faulty (too_few_of line.tokens)) (cond full (Faulty (fault_of OverLimit 0)) (row_reading known First form.row line))) Other))
+    gives_with : (line : Line) (full of_kind short : Bool) → is_line_of form line ≡ of_kind → faults_in line (cond of_kind (cond short (Faulty (too_few_of line.tokens)) (cond full (Faulty (fault_of_kind OverLimit 0)) (row_reading known First form.row line))) Other) ≡ [] → Gives Is (is_line_of form) line (records_in (cond of_kind (cond short (Faulty (too_few_of line.tokens)) (cond full (Faulty (fault_of_kind OverLimit 0)) (row_reading known First form.row line))) Other))
     gives_with line full false short e none = e
     gives_with line full true true e none = absurd (cc)
     gives_with line true true false e none = absurd (cc)

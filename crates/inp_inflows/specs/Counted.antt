@@ -10,14 +10,13 @@ use Rattle.inp_lines.specs.declared.line.SectionName.{SectionName}
 use Rattle.inp_lines.specs.declared.names.Naming.TheVariants.{First}
 use Rattle.inp_lines.specs.declared.reading.Reading.{Reading}
 use Rattle.inp_lines.specs.declared.reading.Reading.TheVariants.{Other, Faulty}
-use Rattle.inp_lines.specs.Faults.{too_few_of}
+use Rattle.inp_lines.specs.Faults.{too_few_of, fault_of_kind}
 use Rattle.inp_lines.specs.Gather.{gather, records_in, faults_in}
 use Rattle.inp_lines.specs.Readings.{is_long}
 use Rattle.inp_forms.specs.Context.{Context}
 use Rattle.inp_forms.specs.Forms.{RowForm, row_reading}
 use Rattle.inp_forms.specs.Items.{least_of}
 use Rattle.inp_forms.specs.Meaning.{IsMade}
-use Rattle.inp_forms.specs.Values.{fault_of}
 
 -- A kind of such records: its section, and the form of its lines.
 pub record CountedForm (R : Type 0) : Type 0 where
@@ -45,7 +44,7 @@ abbrev pub reading_with : {R : Type 0} → Context → CountedForm R → Bool �
 reading_with known form full line =
     if is_line_of form line
     then (if is_short form line then Faulty (too_few_of line.tokens)
-    else if full then Faulty (fault_of OverLimit 0)
+    else if full then Faulty (fault_of_kind OverLimit 0)
     else row_reading known First form.row line)
     else Other
 

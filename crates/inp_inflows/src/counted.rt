@@ -9,8 +9,10 @@ ghost use Rattle.inp_inflows.specs.Counted.{is_line_of};
 ghost use Rattle.inp_inflows.specs.Counted.{is_short, reading_with};
 
 use fixed_num::RECORD_LIMIT;
-use inp_forms::{Form, Known, fault, least_of, read_row};
-use inp_lines::{Line, Naming, Reading, SectionName, add_fault, is_too_long, too_few};
+use inp_forms::{Form, Known, least_of, read_row};
+use inp_lines::{
+    Line, Naming, Reading, SectionName, add_fault, fault_of_kind, is_too_long, too_few,
+};
 use net_types::{FaultKind, LineFault, List, OutOfMemory};
 use std::alloc::Global;
 
@@ -65,7 +67,7 @@ fn read_line<'a, const N: usize, F: Counted<N>>(
         return Ok(Reading::Faulty(too_few(line.tokens.as_slice())));
     }
     if full {
-        return Ok(Reading::Faulty(fault(FaultKind::OverLimit, 0)));
+        return Ok(Reading::Faulty(fault_of_kind(FaultKind::OverLimit, 0)));
     }
     read_row::<N, F>(alloc, known, Naming::First, line)
 }

@@ -1,4 +1,5 @@
 use Rattle.std.specs.Prelude.{ℕ, List, [], ◌∷◌, cond, Option, None, Result, Ok, Err}
+use Rattle.net_types.specs.declared.faults.FaultKind.TheVariants.{UndefinedName}
 use Rattle.inp_lines.specs.declared.line.Line.{Line}
 use Rattle.inp_lines.specs.declared.line.SectionName.{SectionName}
 use Rattle.inp_lines.specs.declared.line.SectionName.TheVariants as section
@@ -28,8 +29,8 @@ pipe_name line = at_conduits None line.section (name_with_of 3 line)
 -- the two nodes of a pipe; the first fault of the line counts
 abbrev pub pipe_ends_of : (List ℕ → Option ℕ) → Naming → List (List ℕ) → Result (ℕ × ℕ) Fault
 pipe_ends_of nodes naming (name ∷ first ∷ second ∷ rest) =
-    and_then (new_name_of naming) (λ _. and_then (needed_of (nodes first) 209 1)
-    (λ from. and_then (needed_of (nodes second) 209 2) (λ to. Ok (from, to))))
+    and_then (new_name_of naming) (λ _. and_then (needed_of (nodes first) UndefinedName 1)
+    (λ from. and_then (needed_of (nodes second) UndefinedName 2) (λ to. Ok (from, to))))
 pipe_ends_of nodes naming (name ∷ first ∷ []) = Err (too_few_of (name ∷ first ∷ []))
 pipe_ends_of nodes naming (name ∷ []) = Err (too_few_of (name ∷ []))
 pipe_ends_of nodes naming [] = Err (too_few_of [])

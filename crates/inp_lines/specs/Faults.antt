@@ -1,4 +1,7 @@
 use Rattle.std.specs.Prelude.{ℕ, List, [], ◌-◌, take, get_or, length}
+use Rattle.net_types.specs.Faults.{number_of}
+use Rattle.net_types.specs.declared.faults.FaultKind.{FaultKind}
+use Rattle.net_types.specs.declared.faults.FaultKind.TheVariants.{TooFewItems}
 use Rattle.net_types.specs.declared.faults.LineFault.{LineFault}
 use Rattle.inp_lines.specs.declared.line.Line.{Line}
 use Rattle.inp_lines.specs.declared.fault.Fault.{Fault}
@@ -11,9 +14,13 @@ token_at tokens place = get_or tokens place []
 abbrev pub line_fault : Line → Fault → LineFault
 line_fault line fault = record { line = line.number; number = fault.number; token = token_at line.tokens fault.place }
 
--- Too few items: 203 at the last token. Source: this project's profile.
+-- A fault of a kind at the token of a place. Source: this project's profile.
+abbrev pub fault_of_kind : FaultKind → ℕ → Fault
+fault_of_kind kind place = record { number = number_of kind; place = place }
+
+-- Too few items, at the last token. Source: this project's profile.
 abbrev pub too_few_of : List (List ℕ) → Fault
-too_few_of tokens = record { number = 203; place = length tokens - 1 }
+too_few_of tokens = fault_of_kind TooFewItems (length tokens - 1)
 
 -- How many faults of an input are kept. Source: this project's profile.
 abbrev pub fault_limit : ℕ

@@ -31,7 +31,8 @@ is_empty (token ∷ tokens) = false
 -- sections (this project's profile).
 abbrev pub is_kept : List ℕ → Bool
 is_kept text =
-    elim (named_section text) [ None ↦ not (is_empty (tokens_of (before_comment text))) | Some named ↦ is_unknown named ]
+    elim (named_section text)
+    [ None ↦ not (is_empty (tokens_of (before_comment text))) | Some named ↦ is_unknown named ]
 
 -- The line of a number, a section and the bytes without the line end.
 abbrev pub line_of : ℕ → SectionName → List ℕ → Line

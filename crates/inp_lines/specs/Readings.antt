@@ -1,4 +1,7 @@
 use Rattle.std.specs.Prelude.{ℕ, Bool, List, [], ◌∷◌, cond, nat_lt, length, Option, Some, None, Result, Ok, Err}
+use Rattle.net_types.specs.declared.faults.FaultKind.{FaultKind}
+use Rattle.net_types.specs.declared.faults.FaultKind.TheVariants.{DuplicateName, OverLimit as OverLimitFault}
+use Rattle.inp_lines.specs.Faults.{fault_of_kind}
 use Rattle.inp_lines.specs.declared.line.Line.{Line}
 use Rattle.inp_lines.specs.declared.fault.Fault.{Fault}
 use Rattle.inp_lines.specs.declared.names.Naming.{Naming}
@@ -25,21 +28,21 @@ abbrev pub name_with_of : ℕ → Line → Option (List ℕ)
 name_with_of least line =
     cond (is_long line) None (cond (nat_lt (length line.tokens) least) None (first_token line.tokens))
 
--- The value of an item, or a fault at its place. Source: this project's profile.
-abbrev pub needed_of : {A : Type 0} → Option A → ℕ → ℕ → Result A Fault
-needed_of None fault_number place = Err (record { number = fault_number; place = place })
-needed_of (Some value) fault_number place = Ok value
+-- The value of an item, or a fault of a kind at its place. Source: this project's profile.
+abbrev pub needed_of : {A : Type 0} → Option A → FaultKind → ℕ → Result A Fault
+needed_of None kind place = Err (fault_of_kind kind place)
+needed_of (Some value) kind place = Ok value
 
 -- The first fault of two readings counts. Source: this project's profile.
 abbrev pub and_then : {A B : Type 0} → Result A Fault → (A → Result B Fault) → Result B Fault
 and_then (Ok value) next = next value
 and_then (Err fault) next = Err fault
 
--- A name has to be new: 207 for a repeated one comes before 402 for one too many. Source: this project's profile.
+-- A name has to be new: that it is repeated comes before that it is one too many. Source: this project's profile.
 abbrev pub new_name_of : Naming → Result (Unit {0}) Fault
 new_name_of First = Ok tt
-new_name_of Repeated = Err (record { number = 207; place = 0 })
-new_name_of OverLimit = Err (record { number = 402; place = 0 })
+new_name_of Repeated = Err (fault_of_kind DuplicateName 0)
+new_name_of OverLimit = Err (fault_of_kind OverLimitFault 0)
 
 -- A line's reading from its record or its fault. Source: this project's profile.
 abbrev pub reading_from : {A : Type 0} → Result A Fault → Reading A

@@ -1,9 +1,9 @@
 // The fault of a line.
 ghost use Rattle.std.specs.Prelude.{◌≡◌, ◌∷◌, ◌++◌, [], OnOk, IfOk, ◌≤◌, length};
-ghost use Rattle.inp_lines.specs.Faults.{line_fault, cut, token_at};
+ghost use Rattle.inp_lines.specs.Faults.{cut, fault_of_kind, line_fault, token_at};
 
 use crate::line::Line;
-use net_types::{LineFault, List, OutOfMemory, Text};
+use net_types::{FaultKind, LineFault, List, OutOfMemory, Text};
 use std::alloc::Global;
 
 /// A fault of a line while the line is at hand: the fault's number and the place of the token at fault, counted
@@ -12,6 +12,16 @@ use std::alloc::Global;
 pub struct Fault {
     pub number: u32,
     pub place: usize,
+}
+
+/// A fault of a kind at the token of a place.
+pub fn fault_of_kind(kind: FaultKind, place: usize) -> Fault
+    ensures { result ≡ fault_of_kind kind place }
+{
+    Fault {
+        number: kind.number(),
+        place,
+    }
 }
 
 /// A copy of the token at a place of a line; past the last there is the empty token.

@@ -12,7 +12,7 @@ use crate::{
     merge_faults, name_with, needed, new_name, number_names, number_of, read_kind, split_lines,
     too_few,
 };
-use net_types::{LineFault, List, OutOfMemory, Text};
+use net_types::{FaultKind, LineFault, List, OutOfMemory, Text};
 use std::alloc::Global;
 use std::test::Fail;
 
@@ -92,8 +92,16 @@ fn pipe_ends<'a>(nodes: &Names<'a>, naming: Naming, tokens: &'a [Text]) -> Resul
         return Err(too_few(tokens));
     };
     new_name(naming)?;
-    let from = needed(number_of(nodes, first.as_slice()), 209, 1)?;
-    let to = needed(number_of(nodes, second.as_slice()), 209, 2)?;
+    let from = needed(
+        number_of(nodes, first.as_slice()),
+        FaultKind::UndefinedName,
+        1,
+    )?;
+    let to = needed(
+        number_of(nodes, second.as_slice()),
+        FaultKind::UndefinedName,
+        2,
+    )?;
     Ok((from, to))
 }
 

@@ -25,7 +25,7 @@ mod tests;
 mod tokens;
 mod walk;
 
-pub use fault::{Fault, add_fault, copy_token, fault_of_line};
+pub use fault::{Fault, add_fault, copy_token, fault_of_kind, fault_of_line};
 pub use kind::{
     Kind, RecordKind, count_line, naming_of_line, number_names, read_kind, read_records,
 };

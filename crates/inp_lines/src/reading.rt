@@ -3,10 +3,10 @@ ghost use Rattle.std.specs.Prelude.{◌≡◌, option_map};
 ghost use Rattle.inp_lines.specs.Readings.{is_long, name_with_of, needed_of, new_name_of, reading_from};
 ghost use Rattle.inp_lines.specs.Faults.{too_few_of};
 
-use crate::fault::Fault;
+use crate::fault::{Fault, fault_of_kind};
 use crate::line::Line;
 use crate::names::Naming;
-use net_types::Text;
+use net_types::{FaultKind, Text};
 
 /// What a line is read as.
 #[derive(Debug, Drop)]
@@ -43,41 +43,32 @@ pub fn name_with<'a>(line: &'a Line, least: usize) -> Option<&'a [u8]>
     }
 }
 
-/// The fault of a line that has too few items: 203 at its last token.
+/// The fault of a line that has too few items, at its last token.
 pub fn too_few(tokens: &[Text]) -> Fault
     ensures { result ≡ too_few_of tokens.now }
 {
-    Fault {
-        number: 203,
-        place: tokens.len().saturating_sub(1),
-    }
+    fault_of_kind(FaultKind::TooFewItems, tokens.len().saturating_sub(1))
 }
 
-/// The value of an item, or a fault at its place.
-pub fn needed<T: Drop>(value: Option<T>, number: u32, place: usize) -> Result<T, Fault>
-    ensures { result ≡ needed_of value number place }
+/// The value of an item, or a fault of a kind at its place.
+pub fn needed<T: Drop>(value: Option<T>, kind: FaultKind, place: usize) -> Result<T, Fault>
+    ensures { result ≡ needed_of value kind place }
 {
     match value {
         Some(value) => Ok(value),
-        None => Err(Fault { number, place }),
+        None => Err(fault_of_kind(kind, place)),
     }
 }
 
-/// Whether a line's name, its first token, is new: 207 where it was defined before, 402 where there are as many names
-/// as may be.
+/// Whether a line's name, its first token, is new: a duplicate where it was defined before, and over the limit where
+/// there are as many names as may be.
 pub fn new_name(naming: Naming) -> Result<(), Fault>
     ensures { result ≡ new_name_of naming }
 {
     match naming {
         Naming::First => Ok(()),
-        Naming::Repeated => Err(Fault {
-            number: 207,
-            place: 0,
-        }),
-        Naming::OverLimit => Err(Fault {
-            number: 402,
-            place: 0,
-        }),
+        Naming::Repeated => Err(fault_of_kind(FaultKind::DuplicateName, 0)),
+        Naming::OverLimit => Err(fault_of_kind(FaultKind::OverLimit, 0)),
     }
 }
 

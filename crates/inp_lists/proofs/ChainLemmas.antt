@@ -12,13 +12,13 @@ use Rattle.inp_lines.specs.declared.fault.Fault.{Fault}
 use Rattle.inp_lines.specs.declared.line.Line.{Line}
 use Rattle.inp_lines.specs.declared.names.Naming.{Naming}
 use Rattle.inp_lines.specs.declared.names.Naming.TheVariants as naming
-use Rattle.inp_lines.specs.Faults.{too_few_of}
+use Rattle.inp_lines.specs.Faults.{too_few_of, fault_of_kind}
 use Rattle.inp_lines.specs.Gather.{gather}
 use Rattle.inp_lines.specs.Names.{is_repeat, naming_among, with_first}
 use Rattle.inp_lines.proofs.GatherLemmas.{gather_push}
 use Rattle.inp_lines.proofs.NameLemmas.{defined_more, defined_none, first_known, first_new}
 use Rattle.net_types.specs.declared.faults.FaultKind.TheVariants.{OverLimit}
-use Rattle.inp_lists.specs.Chains.{ChainForm, chain_fault, counts, fault_by, fault_in, fault_of, is_over, kept, kept_after}
+use Rattle.inp_lists.specs.Chains.{ChainForm, chain_fault, counts, fault_by, fault_in, is_over, kept, kept_after}
 use Rattle.inp_lists.specs.Chains.{line_name, most_pairs, names_in, own_lines, size_at, size_in, with_line}
 use Rattle.inp_lists.specs.Holding.{AreDistinct, AreNamed, with_counted}
 use Rattle.inp_lists.proofs.PlaceLemmas.{distinct_first, room_first}
@@ -98,17 +98,17 @@ module _ {R S : Type 0} (form : ChainForm R S) where
     Good : Type 0
     Good = IsCounted own standing total line fault
 
-    full : (b : Bool) → nat_lt most_pairs (total + form.size_of own line) ≡ b → form.is_short own line ≡ false → is_over standing ≡ false → fault ≡ cond b (Some (fault_of OverLimit 0)) (form.item_fault own line) → Good
+    full : (b : Bool) → nat_lt most_pairs (total + form.size_of own line) ≡ b → form.is_short own line ≡ false → is_over standing ≡ false → fault ≡ cond b (Some (fault_of_kind OverLimit 0)) (form.item_fault own line) → Good
     full true test enough name f = absurd (let bad : false ≡ true = ap counts (sym f) ∙ h in cc)
     full false test enough name f = record { enough = enough; name_room = name; room = grind (arith, nat_tests); fault_is = f }
 
-    over : (b : Bool) → is_over standing ≡ b → form.is_short own line ≡ false → fault ≡ cond b (Some (fault_of OverLimit 0)) (cond (nat_lt most_pairs (total + form.size_of own line)) (Some (fault_of OverLimit 0)) (form.item_fault own line)) → Good
+    over : (b : Bool) → is_over standing ≡ b → form.is_short own line ≡ false → fault ≡ cond b (Some (fault_of_kind OverLimit 0)) (cond (nat_lt most_pairs (total + form.size_of own line)) (Some (fault_of_kind OverLimit 0)) (form.item_fault own line)) → Good
     over true test enough f = absurd (let bad : false ≡ true = ap counts (sym f) ∙ h in cc)
     over false test enough f = full (nat_lt most_pairs (total + form.size_of own line)) refl enough test f
 
     short : (b : Bool) → form.is_short own line ≡ b → Good
-    short true test = absurd (let bad : false ≡ true = ap counts (sym (e ∙ ap (λ b. cond b (Some (too_few_of line.tokens)) (cond (is_over standing) (Some (fault_of OverLimit 0)) (cond (nat_lt most_pairs (total + form.size_of own line)) (Some (fault_of OverLimit 0)) (form.item_fault own line)))) test)) ∙ h in cc)
-    short false test = over (is_over standing) refl test (e ∙ ap (λ b. cond b (Some (too_few_of line.tokens)) (cond (is_over standing) (Some (fault_of OverLimit 0)) (cond (nat_lt most_pairs (total + form.size_of own line)) (Some (fault_of OverLimit 0)) (form.item_fault own line)))) test)
+    short true test = absurd (let bad : false ≡ true = ap counts (sym (e ∙ ap (λ b. cond b (Some (too_few_of line.tokens)) (cond (is_over standing) (Some (fault_of_kind OverLimit 0)) (cond (nat_lt most_pairs (total + form.size_of own line)) (Some (fault_of_kind OverLimit 0)) (form.item_fault own line)))) test)) ∙ h in cc)
+    short false test = over (is_over standing) refl test (e ∙ ap (λ b. cond b (Some (too_few_of line.tokens)) (cond (is_over standing) (Some (fault_of_kind OverLimit 0)) (cond (nat_lt most_pairs (total + form.size_of own line)) (Some (fault_of_kind OverLimit 0)) (form.item_fault own line)))) test)
 
   pub counted_in : (lines : List Line) (line : Line) (fault : Option Fault) → fault ≡ fault_in form lines line → counts fault ≡ true → IsCounted (own_lines (line_name line) lines) (naming_among (names_in lines) (line_name line)) (size_in form lines) line fault
   unfolding fault_in

@@ -4,12 +4,11 @@ use Rattle.std.specs.Prelude.{nat_lt, List, [], ◌∷◌, ◌++◌}
 use Rattle.std.specs.Prelude.{map, filter, sum, bytes_eq, Option, Some, None}
 use Rattle.net_types.specs.declared.faults.FaultKind.{FaultKind}
 use Rattle.net_types.specs.declared.faults.FaultKind.TheVariants.{TooFewItems, OverLimit}
-use Rattle.net_types.specs.Faults.{number_of}
 use Rattle.inp_lines.specs.declared.fault.Fault.{Fault}
 use Rattle.inp_lines.specs.declared.line.Line.{Line}
 use Rattle.inp_lines.specs.declared.names.Naming.{Naming}
 use Rattle.inp_lines.specs.declared.names.Naming.TheVariants as naming
-use Rattle.inp_lines.specs.Faults.{token_at, too_few_of}
+use Rattle.inp_lines.specs.Faults.{fault_of_kind, token_at, too_few_of}
 use Rattle.inp_lines.specs.Gather.{gather}
 use Rattle.inp_lines.specs.Names.{defined, naming_among}
 
@@ -27,10 +26,6 @@ pub record ChainForm (R S : Type 0) : Type 0 where
   -- the record of a name, and the state, by all lines of the name
   pub record_of : List ℕ → List Line → R
   pub state_of : List Line → S
-
--- a fault of a kind at the item of a place
-abbrev pub fault_of : FaultKind → ℕ → Fault
-fault_of kind place = record { number = number_of kind; place = place }
 
 -- The name of a line is its first token.
 abbrev pub line_name : Line → List ℕ
@@ -65,8 +60,8 @@ is_over naming.OverLimit = true
 abbrev pub fault_by : {R S : Type 0} → ChainForm R S → List Line → Naming → ℕ → Line → Option Fault
 fault_by form own naming total line =
     if form.is_short own line then Some (too_few_of line.tokens)
-    else if is_over naming then Some (fault_of OverLimit 0)
-    else if nat_lt most_pairs (total + form.size_of own line) then Some (fault_of OverLimit 0)
+    else if is_over naming then Some (fault_of_kind OverLimit 0)
+    else if nat_lt most_pairs (total + form.size_of own line) then Some (fault_of_kind OverLimit 0)
     else form.item_fault own line
 
 -- The same by the lines before it that count.

@@ -2,7 +2,7 @@
 ghost use Rattle.std.specs.Prelude.{◌≡◌, ◌∷◌, ◌++◌, [], ℕ, List as Sequence, IfOk};
 ghost use Rattle.inp_lines.specs.declared.line.Line.{Line as DataLine};
 ghost use Rattle.inp_lines.specs.Faults.{token_at};
-ghost use Rattle.inp_lists.specs.Chains.{ChainForm, fault_of};
+ghost use Rattle.inp_lists.specs.Chains.{ChainForm};
 
 use inp_lines::{Fault, Line};
 use net_types::{FaultKind, OutOfMemory, Text};
@@ -61,16 +61,6 @@ pub trait Chain {
             → made.new ≡ (form self.now).record_of name (own ++ line.now ∷ [])) }
         ensures state { IfOk result (λ next. (own : Sequence DataLine) → state ≡ (form self.now).state_of own
             → next ≡ (form self.now).state_of (own ++ line.now ∷ [])) };
-}
-
-/// A fault of a kind at the item of a place.
-pub fn fault(kind: FaultKind, place: usize) -> Fault
-    ensures { result ≡ fault_of kind place }
-{
-    Fault {
-        number: kind.number(),
-        place,
-    }
 }
 
 /// The item at a place; past the last there is the empty text.

@@ -11,10 +11,11 @@ ghost use Rattle.inp_lists.specs.Chains.{chain_fault, chain_names, chain_records
 ghost use Rattle.inp_lists.specs.Chains.{fault_in, is_over, kept, line_name, names_in, own_lines};
 ghost use Rattle.inp_lists.specs.Holding.{AreDistinct, AreNamed, HoldsLines, HoldsNames, with_counted};
 
-use crate::chain::{Chain, fault, text_at};
+use crate::chain::{Chain, text_at};
 use crate::held::Held;
 use inp_lines::{
-    Fault, Line, Names, Naming, add_fault, add_first, naming_at, no_names, number_of, too_few,
+    Fault, Line, Names, Naming, add_fault, add_first, fault_of_kind, naming_at, no_names,
+    number_of, too_few,
 };
 use net_types::{FaultKind, LineFault, List, OutOfMemory};
 use std::alloc::Global;
@@ -159,10 +160,10 @@ fn line_fault<C: Chain>(
         return Some(too_few(line.tokens.as_slice()));
     }
     if is_over(naming) {
-        return Some(fault(FaultKind::OverLimit, 0));
+        return Some(fault_of_kind(FaultKind::OverLimit, 0));
     }
     if chain.size(state, line) > MOST_PAIRS.saturating_sub(total) {
-        return Some(fault(FaultKind::OverLimit, 0));
+        return Some(fault_of_kind(FaultKind::OverLimit, 0));
     }
     chain.item_fault(state, line)
 }

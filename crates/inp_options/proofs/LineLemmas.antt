@@ -3,6 +3,8 @@ use Rattle.std.proofs.Common.{◌≡◌, ◌∙◌, ◌++◌, ◌∷◌, [], ℕ
 use Rattle.std.specs.List.{last_or}
 use Rattle.std.proofs.lemmas.List.Concat.{flat_map-append}
 use Rattle.net_types.specs.declared.options.FlowUnits.{FlowUnits}
+use Rattle.net_types.specs.declared.faults.FaultKind.{FaultKind}
+use Rattle.net_types.specs.declared.faults.FaultKind.TheVariants.{InvalidKeyword, InvalidNumber}
 use Rattle.inp_lines.specs.declared.fault.Fault.{Fault}
 use Rattle.inp_lines.specs.declared.line.Line.{Line}
 use Rattle.inp_lines.specs.declared.line.SectionName.{SectionName}
@@ -42,19 +44,19 @@ on_option_lines units = record {
 units_on : Reading Setting → List FlowUnits
 units_on reading = flat_map units_in (records_in reading)
 
-none_by : {A : Type 0} (f : A → Setting) (n : ℕ) (value : Option A) → ((v : A) → units_in (f v) ≡ []) → units_on (reading_from (set_by f value n)) ≡ []
+none_by : {A : Type 0} (f : A → Setting) (kind : FaultKind) (value : Option A) → ((v : A) → units_in (f v) ≡ []) → units_on (reading_from (set_by f value kind)) ≡ []
 unfolding units_on
-none_by f n None h = refl
-none_by f n (Some v) h = ap (λ l. l ++ []) (h v)
+none_by f kind None h = refl
+none_by f kind (Some v) h = ap (λ l. l ++ []) (h v)
 
 -- they don't depend on the units under which it is read
 by_kind : (units other : FlowUnits) (kind : OptionKind) (text : List ℕ) → units_on (reading_from (setting_by units kind text)) ≡ units_on (reading_from (setting_by other kind text))
 unfolding setting_by
-by_kind units other option.MinSurfArea text = none_by setting.MinArea 211 (area_of units text) (λ v. refl) ∙ sym (none_by setting.MinArea 211 (area_of other text) (λ v. refl))
-by_kind units other option.HeadTolerance text = none_by setting.Tolerance 211 (tolerance_of units text) (λ v. refl) ∙ sym (none_by setting.Tolerance 211 (tolerance_of other text) (λ v. refl))
+by_kind units other option.MinSurfArea text = none_by setting.MinArea InvalidNumber (area_of units text) (λ v. refl) ∙ sym (none_by setting.MinArea InvalidNumber (area_of other text) (λ v. refl))
+by_kind units other option.HeadTolerance text = none_by setting.Tolerance InvalidNumber (tolerance_of units text) (λ v. refl) ∙ sym (none_by setting.Tolerance InvalidNumber (tolerance_of other text) (λ v. refl))
 by_kind units other _ text = refl
 
-by_name : (units other : FlowUnits) (kind : Option OptionKind) (text : List ℕ) → units_on (reading_from (and_then (needed_of kind 205 0) (λ k. setting_by units k text))) ≡ units_on (reading_from (and_then (needed_of kind 205 0) (λ k. setting_by other k text)))
+by_name : (units other : FlowUnits) (kind : Option OptionKind) (text : List ℕ) → units_on (reading_from (and_then (needed_of kind InvalidKeyword 0) (λ k. setting_by units k text))) ≡ units_on (reading_from (and_then (needed_of kind InvalidKeyword 0) (λ k. setting_by other k text)))
 by_name units other None text = refl
 by_name units other (Some kind) text = by_kind units other kind text
 

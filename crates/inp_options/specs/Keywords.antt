@@ -17,11 +17,14 @@ choice_of (entry ∷ more) text = cond (same_word text entry.0) (Some entry.1) (
 
 -- FLOW_UNITS
 abbrev pub units_named : List ℕ → Option FlowUnits
-units_named text = choice_of ((codes "CFS", Cfs) ∷ (codes "GPM", Gpm) ∷ (codes "MGD", Mgd) ∷ (codes "CMS", Cms) ∷ (codes "LPS", Lps) ∷ (codes "MLD", Mld) ∷ []) text
+units_named text =
+    choice_of ((codes "CFS", Cfs) ∷ (codes "GPM", Gpm) ∷ (codes "MGD", Mgd)
+    ∷ (codes "CMS", Cms) ∷ (codes "LPS", Lps) ∷ (codes "MLD", Mld) ∷ []) text
 
 -- INFILTRATION, the methods that are built
 abbrev pub infiltration_named : List ℕ → Option InfilKind
-infiltration_named text = choice_of ((codes "MODIFIED_HORTON", ModifiedHorton) ∷ (codes "CURVE_NUMBER", CurveNumber) ∷ []) text
+infiltration_named text =
+    choice_of ((codes "MODIFIED_HORTON", ModifiedHorton) ∷ (codes "CURVE_NUMBER", CurveNumber) ∷ []) text
 
 -- INERTIAL_DAMPING
 abbrev pub damping_named : List ℕ → Option Damping

@@ -2,7 +2,8 @@
 use Rattle.std.specs.Prelude.{IfSome}
 use Rattle.inp_options.specs.declared.chosen.Latest.{Latest}
 use Rattle.fixed_num.specs.Ranges.{IsEven}
-use Rattle.inp_options.specs.Ranges.{IsDay, IsTime, IsReportStep, IsWetStep, IsRoutingStep, IsVariableStep, IsMinArea, IsTolerance, IsTrials}
+use Rattle.inp_options.specs.Ranges.{IsDay, IsTime, IsReportStep, IsWetStep, IsRoutingStep}
+use Rattle.inp_options.specs.Ranges.{IsVariableStep, IsMinArea, IsTolerance, IsTrials}
 
 -- each value that is set lies in its range; times of the day and the routing step are even numbers of ms
 pub record AreLatest (latest : Latest) : Type 0 where

@@ -21,7 +21,8 @@ abbrev pub start_by : Latest → ℤ
 start_by latest = moment_of (unwrap_or latest.start_date default_day) (unwrap_or latest.start_time (pos 0))
 
 abbrev pub finish_by : Latest → ℤ
-finish_by latest = moment_of (unwrap_or latest.end_date (unwrap_or latest.start_date default_day)) (unwrap_or latest.end_time (pos 0))
+finish_by latest =
+    moment_of (unwrap_or latest.end_date (unwrap_or latest.start_date default_day)) (unwrap_or latest.end_time (pos 0))
 
 -- the options by what is set, with the default of each; but for ponding and variable steps
 unfoldable pub base_by : FlowUnits → Latest → Options

@@ -23,7 +23,8 @@ warning_if due text = cond due (text ∷ []) []
 unfoldable pub warnings_by : Latest → List Line → List (List ℕ)
 warnings_by latest lines =
     warning_if (unwrap_or latest.extran false) (codes "WARNING slot method used")
-    ++ warning_if (is_none latest.infil && has_subcatchments lines) (codes "WARNING infiltration taken as MODIFIED_HORTON")
+    ++ warning_if (is_none latest.infil && has_subcatchments lines)
+    (codes "WARNING infiltration taken as MODIFIED_HORTON")
 
 unfoldable pub warnings_of : List Line → List (List ℕ)
 warnings_of lines = warnings_by (latest_in lines) lines

@@ -1,6 +1,7 @@
 // The keywords that options take.
 ghost use Rattle.std.specs.Prelude.{◌≡◌};
-ghost use Rattle.inp_options.specs.Keywords.{damping_named, infiltration_named, is_dynamic_wave, limiter_named, method_named, offsets_named, units_named};
+ghost use Rattle.inp_options.specs.Keywords.{damping_named, infiltration_named, is_dynamic_wave};
+ghost use Rattle.inp_options.specs.Keywords.{limiter_named, method_named, offsets_named, units_named};
 
 use inp_values::is_word;
 use net_types::{Damping, FlowUnits, InfilKind, Limiter};

@@ -21,5 +21,6 @@ pub fn first_day()
 
 /// Law: the flow units that a file sets are the same under whichever units its lines are read.
 pub fn flow_units_under_any()
-    ensures { (units other : FlowUnits) (lines : List DataLine) → (latest_of (settings units lines)).units ≡ (latest_of (settings other lines)).units }
+    ensures { (units other : FlowUnits) (lines : List DataLine)
+        → (latest_of (settings units lines)).units ≡ (latest_of (settings other lines)).units }
 {}

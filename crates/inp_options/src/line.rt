@@ -52,11 +52,7 @@ fn setting_of(units: FlowUnits, tokens: &[Text]) -> Result<Setting, Fault>
     let [name, text, ..] = tokens else {
         return Err(too_few(tokens));
     };
-    let option = needed(
-        option_named(name.as_slice()),
-        FaultKind::InvalidKeyword.number(),
-        0,
-    )?;
+    let option = needed(option_named(name.as_slice()), FaultKind::InvalidKeyword, 0)?;
     setting_by(units, option, text.as_slice())
 }
 

@@ -32,7 +32,8 @@ pub fn read_options(
 ) -> Result<(Options, List<Text>), OutOfMemory>
     ensures options { IfOk result (λ read. read.0 ≡ options_of lines.now) }
     ensures warnings { IfOk result (λ read. read.1 ≡ warnings_of lines.now) }
-    ensures faults { OnOk result (faults.new ≡ cut (merged faults.old (cut (gather (option_fault (units_of lines.now)) [] lines.now)))) }
+    ensures faults { OnOk result
+        (faults.new ≡ cut (merged faults.old (cut (gather (option_fault (units_of lines.now)) [] lines.now)))) }
 
     // For those who compute with them.
     ensures range { IfOk result (λ read. OptionsInRange read.0) }
@@ -100,7 +101,8 @@ fn base_by(units: FlowUnits, latest: &Latest) -> Options
 // A value or its default: in the range in which both lie.
 fn within_or(value: Option<i64>, default: i64) -> i64
     ensures value { result ≡ unwrap_or value default }
-    ensures range { (least most : ℤ) → IfSome value (λ v. IsBetween least v most) → IsBetween least default most → IsBetween least result most }
+    ensures range { (least most : ℤ) → IfSome value (λ v. IsBetween least v most) → IsBetween least default most
+        → IsBetween least result most }
     ensures even { IfSome value IsEven → IsEven default → IsEven result }
 {
     match value {

@@ -1,8 +1,8 @@
 // What an option line sets.
 use net_types::{Damping, FlowUnits, InfilKind, Limiter};
 
-/// What an option line without a fault sets (User's Manual, section [OPTIONS]). Dates are days from 1970-01-01, times and
-/// steps ms, the surface area mm², the tolerance µm, the part of the travel time millionths.
+/// What an option line without a fault sets (User's Manual, section [OPTIONS]). Dates are days from 1970-01-01, times
+/// and steps ms, the surface area mm², the tolerance µm, the part of the travel time millionths.
 #[derive(Clone, Copy, Debug)]
 pub enum Setting {
     Units(FlowUnits),

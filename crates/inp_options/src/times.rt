@@ -14,7 +14,7 @@ use net_types::FaultKind;
 
 /// The day of a date.
 pub(crate) fn day(text: &[u8]) -> Result<i64, Fault>
-    ensures value { result ≡ needed_of (date_of text.now) 213 1 }
+    ensures value { result ≡ needed_of (date_of text.now) FaultKind.InvalidTime 1 }
     ensures range { IfOk result (λ day. IsBetween (neg_ℤ (pos 25_567)) day (pos 84_370)) }
 {
     match date(text) {
@@ -25,7 +25,7 @@ pub(crate) fn day(text: &[u8]) -> Result<i64, Fault>
 
 /// The time of day of a clock.
 pub(crate) fn time(text: &[u8]) -> Result<i64, Fault>
-    ensures value { result ≡ needed_of (time_of_day_of text.now) 213 1 }
+    ensures value { result ≡ needed_of (time_of_day_of text.now) FaultKind.InvalidTime 1 }
     ensures range { IfOk result (λ ms. IsBetween (pos 0) ms (pos 86_399_999)) }
     ensures even { IfOk result IsEven }
 {
@@ -37,7 +37,7 @@ pub(crate) fn time(text: &[u8]) -> Result<i64, Fault>
 
 /// A step that is written as a clock, from a second on.
 pub(crate) fn clock_step(text: &[u8], most: i64) -> Result<i64, Fault>
-    ensures value { result ≡ needed_of (within (pos 1_000) most (clock_of text.now)) 213 1 }
+    ensures value { result ≡ needed_of (within (pos 1_000) most (clock_of text.now)) FaultKind.InvalidTime 1 }
     ensures range { IfOk result (λ ms. IsBetween (pos 1_000) ms most) }
 {
     in_range(clock(text), 1_000, most, FaultKind::InvalidTime)
@@ -45,7 +45,7 @@ pub(crate) fn clock_step(text: &[u8], most: i64) -> Result<i64, Fault>
 
 /// The routing step.
 pub(crate) fn routing_step(text: &[u8]) -> Result<i64, Fault>
-    ensures value { result ≡ needed_of (within (pos 10) (pos 3_600_000) (seconds_of text.now)) 213 1 }
+    ensures value { result ≡ needed_of (within (pos 10) (pos 3_600_000) (seconds_of text.now)) FaultKind.InvalidTime 1 }
     ensures range { IfOk result (λ ms. IsBetween (pos 10) ms (pos 3_600_000)) }
     ensures even { IfOk result IsEven }
 {

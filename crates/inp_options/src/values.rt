@@ -2,40 +2,38 @@
 ghost use Rattle.std.specs.Prelude.{◌≡◌, ◌^◌, pos, IfOk, IfSome};
 ghost use Rattle.fixed_num.specs.Decimal.{scaled_of};
 ghost use Rattle.fixed_num.specs.Ranges.{IsBetween, IsEven};
-ghost use Rattle.net_types.specs.Faults.{number_of};
+ghost use Rattle.inp_lines.specs.Faults.{fault_of_kind};
 ghost use Rattle.inp_lines.specs.Readings.{needed_of};
 ghost use Rattle.inp_options.specs.Ranges.{IsTrials};
-ghost use Rattle.inp_options.specs.Values.{area_of, built_of, is_zero, off_of, tolerance_of, trials_of, variable_of, within};
+ghost use Rattle.inp_options.specs.Values.{area_of, built_of, is_zero, off_of, tolerance_of};
+ghost use Rattle.inp_options.specs.Values.{trials_of, variable_of, within};
 ghost use Rattle.inp_options.specs.Values.{zero_as};
 ghost use Rattle.inp_values.specs.Field.{whole_of};
 ghost use Rattle.inp_values.specs.Units.{unit_for};
 
 use crate::setting::Setting;
 use fixed_num::scaled_decimal;
-use inp_lines::{Fault, needed};
+use inp_lines::{Fault, fault_of_kind, needed};
 use inp_values::{Quantity, unit_of, whole};
 use net_types::{FaultKind, FlowUnits};
 
 /// A fault of a kind at the second token.
 pub(crate) fn fault(kind: FaultKind) -> Fault
-    ensures { result ≡ record { number = number_of kind; place = 1 } }
+    ensures { result ≡ fault_of_kind kind 1 }
 {
-    Fault {
-        number: kind.number(),
-        place: 1,
-    }
+    fault_of_kind(kind, 1)
 }
 
 /// A value that is there, or a fault of a kind at the second token.
 pub(crate) fn value<T: Drop>(found: Option<T>, kind: FaultKind) -> Result<T, Fault>
-    ensures { result ≡ needed_of found (number_of kind) 1 }
+    ensures { result ≡ needed_of found kind 1 }
 {
-    needed(found, kind.number(), 1)
+    needed(found, kind, 1)
 }
 
 /// What a keyword stands for, or the fault of a text that is none.
 pub(crate) fn keyword<T: Drop>(word: Option<T>) -> Result<T, Fault>
-    ensures { result ≡ needed_of word 205 1 }
+    ensures { result ≡ needed_of word FaultKind.InvalidKeyword 1 }
 {
     value(word, FaultKind::InvalidKeyword)
 }
@@ -47,7 +45,7 @@ pub(crate) fn in_range(
     most: i64,
     kind: FaultKind,
 ) -> Result<i64, Fault>
-    ensures value { result ≡ needed_of (within least most value) (number_of kind) 1 }
+    ensures value { result ≡ needed_of (within least most value) kind 1 }
     ensures range { IfOk result (λ v. IsBetween least v most) }
     ensures even { IfSome value IsEven → IfOk result IsEven }
 {
@@ -76,7 +74,7 @@ fn zero_as(default: i64, value: Option<i64>) -> Option<i64>
 /// The least surface area of a node: 0 stands for the default, and there is nothing between it and 10,000 mm².
 #[tactic(auto, unfolding(crate::specs::Values::area_of))]
 pub(crate) fn area(units: FlowUnits, text: &[u8]) -> Result<i64, Fault>
-    ensures value { result ≡ needed_of (area_of units text.now) 211 1 }
+    ensures value { result ≡ needed_of (area_of units text.now) FaultKind.InvalidNumber 1 }
     ensures range { IfOk result (λ v. IsBetween (pos 10_000) v (pos (10 ^ 13))) }
 {
     let stored = scaled_decimal(text, &unit_of(units, Quantity::NodeArea));
@@ -91,7 +89,7 @@ pub(crate) fn area(units: FlowUnits, text: &[u8]) -> Result<i64, Fault>
 /// The part of the shortest travel time that a step takes at most, from 0 to 2.
 #[tactic(auto, unfolding(crate::specs::Values::variable_of))]
 pub(crate) fn variable_step(text: &[u8]) -> Result<i64, Fault>
-    ensures value { result ≡ needed_of (variable_of text.now) 211 1 }
+    ensures value { result ≡ needed_of (variable_of text.now) FaultKind.InvalidNumber 1 }
     ensures range { IfOk result (λ v. IsBetween (pos 0) v (pos 2_000_000)) }
 {
     in_range(raw(text), 0, 2_000_000, FaultKind::InvalidNumber)
@@ -100,7 +98,7 @@ pub(crate) fn variable_step(text: &[u8]) -> Result<i64, Fault>
 /// The head tolerance: 0 stands for the default.
 #[tactic(auto, unfolding(crate::specs::Values::tolerance_of))]
 pub(crate) fn tolerance(units: FlowUnits, text: &[u8]) -> Result<i64, Fault>
-    ensures value { result ≡ needed_of (tolerance_of units text.now) 211 1 }
+    ensures value { result ≡ needed_of (tolerance_of units text.now) FaultKind.InvalidNumber 1 }
     ensures range { IfOk result (λ v. IsBetween (pos 1) v (pos (10 ^ 9))) }
 {
     let stored = scaled_decimal(text, &unit_of(units, Quantity::Depth));

@@ -13,7 +13,7 @@ use Rattle.inp_lines.specs.declared.names.Naming.{Naming}
 use Rattle.inp_lines.specs.declared.names.Naming.TheVariants.{First}
 use Rattle.inp_lines.specs.declared.reading.Reading.{Reading}
 use Rattle.inp_lines.specs.declared.reading.Reading.TheVariants.{Other, Record, Faulty}
-use Rattle.inp_lines.specs.Faults.{cut, too_few_of}
+use Rattle.inp_lines.specs.Faults.{cut, too_few_of, fault_of_kind as item_fault}
 use Rattle.inp_lines.specs.Gather.{gather, fault_at, fault_found, faults_in, walk_fault}
 use Rattle.inp_lines.specs.Merge.{merged}
 use Rattle.inp_lines.specs.Names.{defined, naming_of}
@@ -24,7 +24,6 @@ use Rattle.inp_lines.proofs.MergeLemmas.{merged_gather, merged_cut, merged_secti
 use Rattle.inp_forms.specs.Context.{Context}
 use Rattle.inp_forms.specs.Forms.{RowForm, Forms, form_reading, has_form, reading_by, row_reading}
 use Rattle.inp_forms.specs.Items.{values_of}
-use Rattle.inp_forms.specs.Values.{fault_of as item_fault}
 use Rattle.inp_forms.proofs.FormLemmas.{form_faults_in}
 use Rattle.inp_owners.specs.Owners.{owner_of}
 use Rattle.inp_owners.proofs.OwnerLemmas.{owned_faults_in}

@@ -13,7 +13,7 @@ use Rattle.inp_lines.specs.Gather.{fault_found, gather}
 use Rattle.inp_lines.specs.Readings.{is_long}
 use Rattle.inp_lines.specs.Sources.{both_of}
 use Rattle.inp_forms.specs.Context.{Context}
-use Rattle.inp_forms.specs.Values.{fault_of as item_fault}
+use Rattle.inp_lines.specs.Faults.{fault_of_kind as item_fault}
 use Rattle.inp_forms.specs.declared.item.Objects.TheVariants as objects
 use Rattle.inp_forms.proofs.FormLemmas.{forms_mean, forms_mean_one}
 use Rattle.inp_owners.proofs.OwnerLemmas.{owned_mean}

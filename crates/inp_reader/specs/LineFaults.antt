@@ -15,7 +15,8 @@ use Rattle.inp_reader.specs.Surface.{surface_fault}
 use Rattle.inp_reader.specs.Tables.{table_fault}
 
 -- The fault of a line, none or one, by all lines and the lines before it: as an option, in the network, on the surface,
--- in a table, as a flow of a node, of a control rule, or as a line that none of these reads. Source: this project's profile.
+-- in a table, as a flow of a node, of a control rule, or as a line that none of these reads. Source: this project's
+-- profile.
 unfoldable pub fault_of_line : List Line → List Line → Line → List LineFault
 fault_of_line lines = both_of (both_of (both_of (both_of (both_of (both_of (option_fault (units_of lines))
     (network_fault (known_in lines))) (surface_fault (method_of lines) (known_in lines)))

@@ -11,7 +11,7 @@ use Rattle.inp_lines.specs.declared.line.SectionName.TheVariants as section
 use Rattle.inp_lines.specs.Gather.{walk_fault}
 use Rattle.inp_lines.specs.Readings.{is_long}
 use Rattle.inp_lines.specs.Sections.{named_section}
-use Rattle.inp_forms.specs.Values.{fault_of}
+use Rattle.inp_lines.specs.Faults.{fault_of_kind}
 
 -- How lines of a section are taken.
 --     BuiltSection      another reader takes them, or they are the title
@@ -65,7 +65,7 @@ treatment_of _ = LaterSection
 
 -- A fault at the first token.
 abbrev pub at_first : FaultKind → Fault
-at_first kind = fault_of kind 0
+at_first kind = fault_of_kind kind 0
 
 -- Whether a line is a section line.
 abbrev pub is_section_line : Line → Bool
@@ -82,7 +82,7 @@ treated_fault NoSection names_section = Some (at_first InvalidKeyword)
 
 -- The fault of a line that no other reader finds: a line that is too long has no other fault, and its token is empty.
 abbrev pub other_fault : Line → Option Fault
-other_fault line = cond (is_long line) (Some (fault_of OverLimit (length line.tokens)))
+other_fault line = cond (is_long line) (Some (fault_of_kind OverLimit (length line.tokens)))
     (treated_fault (treatment_of line.section) (is_section_line line))
 
 -- The same as a list, by the lines before it, which don't matter.

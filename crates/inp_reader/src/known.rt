@@ -29,8 +29,8 @@ pub(crate) struct Tables {
 }
 
 /// What all lines say of names, and the tables that names stand for, for a run that starts at this moment, in ms from
-/// 1970-01-01: a name stands for the object whose lines define it, wherever these are (User's Manual, sections [CURVES],
-/// [TIMESERIES] and [PATTERNS]).
+/// 1970-01-01: a name stands for the object whose lines define it, wherever these are (User's Manual, sections
+/// [CURVES], [TIMESERIES] and [PATTERNS]).
 pub(crate) fn known_of<'a>(
     alloc: Global,
     units: FlowUnits,

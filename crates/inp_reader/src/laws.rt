@@ -8,7 +8,8 @@ ghost use Rattle.inp_reader.specs.Meaning.{Means};
 
 /// Lines mean at most one project.
 pub fn lines_have_one_meaning()
-    ensures { (lines : Sequence DataLine) (project other : DataProject) → Means lines project → Means lines other → project ≡ other }
+    ensures { (lines : Sequence DataLine) (project other : DataProject)
+        → Means lines project → Means lines other → project ≡ other }
 {}
 
 /// Lines without a fault mean a project.
@@ -18,5 +19,6 @@ pub fn lines_without_a_fault_have_a_meaning()
 
 /// A line has at most one fault, and the fault is that line's.
 pub fn lines_have_one_fault()
-    ensures { (lines before : Sequence DataLine) (line : DataLine) → OneOn line.number (fault_of_line lines before line) }
+    ensures { (lines before : Sequence DataLine) (line : DataLine)
+        → OneOn line.number (fault_of_line lines before line) }
 {}

@@ -6,9 +6,9 @@ ghost use Rattle.inp_lines.specs.Gather.{gather};
 ghost use Rattle.inp_lines.specs.Merge.{merged};
 ghost use Rattle.inp_reader.specs.OtherLines.{other_fault, other_line_fault, treated_fault, treatment_of};
 
-use inp_forms::fault;
 use inp_lines::{
-    Fault, Line, LineWalk, SectionName, is_too_long, merge_faults, section_of, walk_lines,
+    Fault, Line, LineWalk, SectionName, fault_of_kind, is_too_long, merge_faults, section_of,
+    walk_lines,
 };
 use net_types::{FaultKind, LineFault, List, OutOfMemory};
 use std::alloc::Global;
@@ -32,7 +32,7 @@ fn other_fault(line: &Line) -> Option<Fault>
     ensures { result ≡ other_fault line.now }
 {
     if is_too_long(line) {
-        return Some(fault(FaultKind::OverLimit, line.tokens.as_slice().len()));
+        return Some(fault_of_kind(FaultKind::OverLimit, line.tokens.as_slice().len()));
     }
     treated_fault(line.section, section_of(line.bytes.as_slice()).is_some())
 }
@@ -74,15 +74,15 @@ fn treated_fault(section: SectionName, names_section: bool) -> Option<Fault>
         | SectionName::Labels
         | SectionName::Backdrop
         | SectionName::Profiles => None,
-        SectionName::Before => Some(fault(FaultKind::InvalidKeyword, 0)),
+        SectionName::Before => Some(fault_of_kind(FaultKind::InvalidKeyword, 0)),
         SectionName::Unknown => {
             if names_section {
-                Some(fault(FaultKind::InvalidKeyword, 0))
+                Some(fault_of_kind(FaultKind::InvalidKeyword, 0))
             } else {
                 None
             }
         }
-        _ => Some(fault(FaultKind::NotInProfile, 0)),
+        _ => Some(fault_of_kind(FaultKind::NotInProfile, 0)),
     }
 }
 

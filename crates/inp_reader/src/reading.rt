@@ -23,8 +23,8 @@ pub enum Read {
     Refused(List<LineFault>),
 }
 
-/// Reads an input of at most 33,554,432 bytes (User's Manual, appendix D; this project's profile). It is refused exactly
-/// where some line is at fault.
+/// Reads an input of at most 33,554,432 bytes (User's Manual, appendix D; this project's profile). It is refused
+/// exactly where some line is at fault.
 pub fn read_project(alloc: Global, input: &[u8]) -> Result<Read, OutOfMemory>
     requires short { length input.now ≤ 33_554_432 }
     ensures reading { IfOk result (ReadsAs (lines_of input.now)) }
@@ -40,8 +40,10 @@ pub fn read_project(alloc: Global, input: &[u8]) -> Result<Read, OutOfMemory>
 
 /// The project where there is no fault.
 fn read_of(project: Project, faults: List<LineFault>) -> Read
-    ensures reading { (lines : Sequence DataLine) → faults ≡ cut (line_faults lines) → (line_faults lines ≡ [] → Means lines project) → ReadsAs lines result }
-    ensures sound { (lines : Sequence DataLine) → faults ≡ cut (line_faults lines) → (line_faults lines ≡ [] → IsSound project) → AcceptsSound result }
+    ensures reading { (lines : Sequence DataLine) → faults ≡ cut (line_faults lines)
+        → (line_faults lines ≡ [] → Means lines project) → ReadsAs lines result }
+    ensures sound { (lines : Sequence DataLine) → faults ≡ cut (line_faults lines)
+        → (line_faults lines ≡ [] → IsSound project) → AcceptsSound result }
 {
     if faults.as_slice().is_empty() {
         Read::Accepted(project)

@@ -23,7 +23,7 @@ use Rattle.inp_values.specs.Words.{same_word}
 use Rattle.inp_values.proofs.ClockLemmas.{time_told}
 use Rattle.inp_lines.specs.declared.fault.Fault.{Fault}
 use Rattle.inp_lines.specs.declared.names.Naming.TheVariants.{First}
-use Rattle.inp_lines.specs.Faults.{token_at, too_few_of}
+use Rattle.inp_lines.specs.Faults.{token_at, too_few_of, fault_of_kind}
 use Rattle.inp_lines.specs.Readings.{and_then, new_name_of}
 use Rattle.inp_forms.specs.declared.item.Objects.{Objects}
 use Rattle.inp_forms.specs.declared.item.Objects.TheVariants as objects
@@ -33,7 +33,7 @@ use Rattle.inp_forms.specs.declared.item.What.{What}
 use Rattle.inp_forms.specs.declared.item.What.TheVariants as what
 use Rattle.inp_forms.specs.Context.{Context, kept_if, object_number, that_is}
 use Rattle.inp_forms.specs.Meaning.{IsAmount, IsHourAmount, IsValue, IsWholeAmount}
-use Rattle.inp_forms.specs.Values.{checked, fault_of, found_of, is_own, value_from, value_of, wrong_of}
+use Rattle.inp_forms.specs.Values.{checked, found_of, is_own, value_from, value_of, wrong_of}
 use Rattle.inp_forms.proofs.PlaceLemmas.{IsInRange}
 use Rattle.inp_forms.proofs.ValueLemmas.{found_means}
 use Rattle.inp_rules.specs.declared.words.Looked.{Looked}
@@ -173,7 +173,7 @@ module _ (known : Context) where
 
   one_range : (v : ℤ) (place : ℕ) (z : ℤ) → IsCoefficient v → up_to_one v place ≡ Ok z → IsPart z
   one_range v place z range = go (int_le v (pos (10 ^ 6))) refl where
-    go : (b : Bool) → int_le v (pos (10 ^ 6)) ≡ b → cond b (Ok v) (Err (fault_of fault_kind.InvalidNumber place)) ≡ Ok z → IsPart z
+    go : (b : Bool) → int_le v (pos (10 ^ 6)) ≡ b → cond b (Ok v) (Err (fault_of_kind fault_kind.InvalidNumber place)) ≡ Ok z → IsPart z
     go true t e = let same : v ≡ z = cc in let below : v ≤ℤ pos (10 ^ 6) = grind (arith, ints) in subst IsPart same (record { from = range.from; to = below })
     go false t e = absurd (cc)
 
@@ -320,7 +320,7 @@ module _ (known : Context) where
       made z range r p q = let same = same_value (record { link = n; setting6 = z }) action r r p q refl in
           subst (IsSoundAction project) same (record { range = record { setting_in = range }; names = record { link = h } })
 
-      go : (b : Bool) → cond b (and_then (set_value known set (token_at tokens 5) 5) (λ setting. Ok (record { link = n; setting6 = setting }))) (Err (fault_of fault_kind.InvalidKeyword 4)) ≡ Ok action → IsSoundAction project action
+      go : (b : Bool) → cond b (and_then (set_value known set (token_at tokens 5) 5) (λ setting. Ok (record { link = n; setting6 = setting }))) (Err (fault_of_kind fault_kind.InvalidKeyword 4)) ≡ Ok action → IsSoundAction project action
       go true e = let value = first_step (set_value known set (token_at tokens 5) 5) _ action e in made value.0 (set_range set (token_at tokens 5) 5 value.0 value.1) _ refl value.2
       go false e = absurd (cc)
 

@@ -8,12 +8,11 @@ use Rattle.inp_lines.specs.declared.fault.Fault.{Fault}
 use Rattle.inp_lines.specs.declared.line.Line.{Line}
 use Rattle.inp_lines.specs.declared.names.Naming.{Naming}
 use Rattle.inp_lines.specs.declared.names.Naming.TheVariants as naming
-use Rattle.inp_lines.specs.Faults.{token_at, too_few_of}
+use Rattle.inp_lines.specs.Faults.{token_at, too_few_of, fault_of_kind}
 use Rattle.inp_lines.specs.Gather.{gather, walk_fault}
 use Rattle.inp_lines.specs.Names.{defined, naming_of}
 use Rattle.inp_lines.specs.Readings.{is_long}
 use Rattle.inp_forms.specs.Context.{Context}
-use Rattle.inp_forms.specs.Values.{fault_of}
 use Rattle.inp_rules.specs.declared.clauses.Clause.{Clause}
 use Rattle.inp_rules.specs.declared.clauses.Clause.TheVariants as clause
 use Rattle.inp_rules.specs.declared.order.RulePart.{RulePart}
@@ -102,17 +101,17 @@ is_repeated _ = false
 abbrev pub name_fault : List (List ℕ) → Naming → (own : List Line) → Option Fault
 name_fault tokens standing own =
     if nat_lt (length tokens) 2 then Some (too_few_of tokens)
-    else if is_over standing then Some (fault_of fault_kind.OverLimit 0)
-    else if not (comes_to_then own) then Some (fault_of fault_kind.RuleSequence 0)
-    else if is_repeated standing then Some (fault_of fault_kind.DuplicateName 1)
+    else if is_over standing then Some (fault_of_kind fault_kind.OverLimit 0)
+    else if not (comes_to_then own) then Some (fault_of_kind fault_kind.RuleSequence 0)
+    else if is_repeated standing then Some (fault_of_kind fault_kind.DuplicateName 1)
     else None
 
 -- of another clause before its items are looked at: too few of them; else out of sequence; else one too many
 abbrev pub clause_fault : RulePart → Clause → (full : Bool) → List (List ℕ) → Role → Option Fault
 clause_fault part next full tokens used =
     if is_short used tokens then Some (too_few_of tokens)
-    else if is_none (next_of part next) then Some (fault_of fault_kind.RuleSequence 0)
-    else if full && is_limited used then Some (fault_of fault_kind.OverLimit 0)
+    else if is_none (next_of part next) then Some (fault_of_kind fault_kind.RuleSequence 0)
+    else if full && is_limited used then Some (fault_of_kind fault_kind.OverLimit 0)
     else None
 
 -- its first item at fault
@@ -124,7 +123,7 @@ item_fault known role.Priority tokens = error_of (priority_of known tokens)
 
 abbrev pub fault_by_clause : Context → RulePart → (full : Bool) → Naming → (after : List Line) → List (List ℕ)
     → Option Clause → Option Fault
-fault_by_clause known part full standing after tokens None = Some (fault_of fault_kind.InvalidKeyword 0)
+fault_by_clause known part full standing after tokens None = Some (fault_of_kind fault_kind.InvalidKeyword 0)
 fault_by_clause known part full standing after tokens (Some clause.Rule) = name_fault tokens standing (own_lines after)
 fault_by_clause known part full standing after tokens (Some next) =
     first_fault (clause_fault part next full tokens (role_of part next)) (item_fault known (role_of part next) tokens)

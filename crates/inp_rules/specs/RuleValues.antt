@@ -3,7 +3,8 @@
 use Rattle.std.specs.Prelude.{ℕ, ◌^◌, if◌then◌else◌, List, Option, Some, None, ℤ, pos, int_le, codes}
 use Rattle.std.specs.Prelude.{Result, Ok, Err}
 use Rattle.inp_forms.specs.Context.{Context, object_number}
-use Rattle.inp_forms.specs.Values.{fault_of, value_of}
+use Rattle.inp_lines.specs.Faults.{fault_of_kind}
+use Rattle.inp_forms.specs.Values.{value_of}
 use Rattle.inp_forms.specs.declared.item.Objects.{Objects}
 use Rattle.inp_forms.specs.declared.item.Value.{Value}
 use Rattle.inp_forms.specs.declared.item.Value.TheVariants.{Amount}
@@ -26,7 +27,7 @@ use Rattle.inp_rules.specs.declared.words.Part.TheVariants as part
 
 -- a value that is there, or a fault of a kind at a place
 abbrev pub found_or : {A : Type 0} → Option A → FaultKind → (place : ℕ) → Result A Fault
-found_or None kind place = Err (fault_of kind place)
+found_or None kind place = Err (fault_of_kind kind place)
 found_or (Some value) kind place = Ok value
 
 -- the number of the object of a name, or 209
@@ -93,11 +94,11 @@ tested_value known looked text place =
 -- a setting of 0 to 1, or 211
 abbrev pub up_to_one : (value : ℤ) (place : ℕ) → Result ℤ Fault
 up_to_one value place =
-    if int_le value (pos (10 ^ 6)) then Ok value else Err (fault_of fault_kind.InvalidNumber place)
+    if int_le value (pos (10 ^ 6)) then Ok value else Err (fault_of_kind fault_kind.InvalidNumber place)
 
 abbrev pub setting_at : Context → List ℕ → (place : ℕ) → Result ℤ Fault
 setting_at known text place =
-    if is_outside text then Err (fault_of fault_kind.NotInProfile place)
+    if is_outside text then Err (fault_of_kind fault_kind.NotInProfile place)
     else and_then (number_at known (what.Number quantity.Coefficient) text place) (λ value. up_to_one value place)
 
 unfoldable pub set_value : Context → Part → List ℕ → (place : ℕ) → Result ℤ Fault

@@ -3,9 +3,8 @@
 use Rattle.std.specs.Prelude.{ℕ, ◌+◌, nat_lt, if◌then◌else◌, List, length, Option, Some, None, codes}
 use Rattle.std.specs.Prelude.{Result, Ok, Err}
 use Rattle.inp_forms.specs.Context.{Context}
-use Rattle.inp_forms.specs.Values.{fault_of}
 use Rattle.inp_forms.specs.declared.item.Objects.TheVariants as objects
-use Rattle.inp_lines.specs.Faults.{token_at, too_few_of}
+use Rattle.inp_lines.specs.Faults.{token_at, too_few_of, fault_of_kind}
 use Rattle.inp_lines.specs.Readings.{and_then}
 use Rattle.inp_lines.specs.declared.fault.Fault.{Fault}
 use Rattle.inp_values.specs.Words.{same_word}
@@ -26,12 +25,12 @@ compared known tokens place looked =
 
 -- what is looked at, at a place, is in this profile, or 401
 abbrev pub looked_test : Context → List (List ℕ) → (place : ℕ) → Option Looked → Result Test Fault
-looked_test known tokens place None = Err (fault_of fault_kind.NotInProfile place)
+looked_test known tokens place None = Err (fault_of_kind fault_kind.NotInProfile place)
 looked_test known tokens place (Some looked) = compared known tokens (place + 1) looked
 
 -- the test of a node, of a link of a kind, and of the clock
 abbrev pub watched_test : Context → List (List ℕ) → Option Watched → Result Test Fault
-watched_test known tokens None = Err (fault_of fault_kind.InvalidKeyword 1)
+watched_test known tokens None = Err (fault_of_kind fault_kind.InvalidKeyword 1)
 watched_test known tokens (Some watched.Node) =
     and_then (object_at known objects.Nodes (token_at tokens 2) 2) (λ node.
     looked_test known tokens 3 (node_look_of node (token_at tokens 3)))

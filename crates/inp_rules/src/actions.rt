@@ -5,8 +5,8 @@ ghost use Rattle.inp_rules.specs.Actions.{action_of, actor_action, part_action, 
 
 use crate::values::{object, set_value, text_at};
 use crate::words::{Part, actor, part_in};
-use inp_forms::{Known, Objects, fault};
-use inp_lines::{Fault, too_few};
+use inp_forms::{Known, Objects};
+use inp_lines::{Fault, fault_of_kind, too_few};
 use inp_values::is_word;
 use net_types::{Action, FaultKind, Text};
 
@@ -34,7 +34,7 @@ fn action_on<'a>(
     ensures { result ≡ actor_action (context_of known.now) tokens.now objects }
 {
     match objects {
-        None => Err(fault(FaultKind::NotInProfile, 1)),
+        None => Err(fault_of_kind(FaultKind::NotInProfile, 1)),
         Some(objects) => match object(known, objects, text_at(tokens, 2), 2) {
             Ok(link) => action_of_part(known, tokens, link, part_in(objects, text_at(tokens, 3))),
             Err(fault) => Err(fault),
@@ -52,7 +52,7 @@ fn action_of_part<'a>(
     ensures { result ≡ part_action (context_of known.now) tokens.now link part }
 {
     match part {
-        None => Err(fault(FaultKind::NotInProfile, 3)),
+        None => Err(fault_of_kind(FaultKind::NotInProfile, 3)),
         Some(part) => setting_of(known, tokens, link, part),
     }
 }
@@ -73,6 +73,6 @@ fn setting_of<'a>(
             Err(fault) => Err(fault),
         }
     } else {
-        Err(fault(FaultKind::InvalidKeyword, 4))
+        Err(fault_of_kind(FaultKind::InvalidKeyword, 4))
     }
 }

@@ -10,8 +10,8 @@ ghost use Rattle.std.specs.Prelude.{Some as Found};
 
 use crate::values::{object, tested_value, text_at};
 use crate::words::{Looked, Watched, clock_look, link_look, node_look, relation, watched_in};
-use inp_forms::{Known, Objects, fault};
-use inp_lines::{Fault, too_few};
+use inp_forms::{Known, Objects};
+use inp_lines::{Fault, fault_of_kind, too_few};
 use inp_values::is_word;
 use net_types::{FaultKind, Test, Text};
 
@@ -47,7 +47,7 @@ fn watched_by<'a>(
     ensures { result ≡ watched_test (context_of known.now) tokens.now watched }
 {
     match watched {
-        None => Err(fault(FaultKind::InvalidKeyword, 1)),
+        None => Err(fault_of_kind(FaultKind::InvalidKeyword, 1)),
         Some(Watched::Node) => node_test(known, tokens),
         Some(Watched::Link(objects)) => link_test(known, tokens, objects),
         Some(Watched::Simulation) => looked_at(known, tokens, 2, clock_look(text_at(tokens, 2))),
@@ -85,7 +85,7 @@ fn looked_at<'a>(
     ensures { result ≡ looked_test (context_of known.now) tokens.now place looked }
 {
     match looked {
-        None => Err(fault(FaultKind::NotInProfile, place)),
+        None => Err(fault_of_kind(FaultKind::NotInProfile, place)),
         Some(looked) => comparison(known, tokens, place + 1, looked),
     }
 }
@@ -102,7 +102,7 @@ fn comparison<'a>(
     ensures { result ≡ compared (context_of known.now) tokens.now place looked }
 {
     match relation(text_at(tokens, place)) {
-        None => Err(fault(FaultKind::InvalidKeyword, place)),
+        None => Err(fault_of_kind(FaultKind::InvalidKeyword, place)),
         Some(relation) => match tested_value(known, looked, text_at(tokens, place + 1), place + 1) {
             Ok(value) => Ok(Test {
                 subject: looked.subject,

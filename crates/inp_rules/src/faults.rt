@@ -23,9 +23,10 @@ use crate::roles::{Role, is_limited, is_past_tests, is_short, role_of};
 use crate::rule_lines::{
     begins_rule, clause_at, is_controls, own_lines, own_part, part_after_line,
 };
-use inp_forms::{Known, fault};
+use inp_forms::Known;
 use inp_lines::{
-    Fault, Kind, Line, Names, Naming, add_fault, count_line, is_too_long, naming_of_line, too_few,
+    Fault, Kind, Line, Names, Naming, add_fault, count_line, fault_of_kind, is_too_long,
+    naming_of_line, too_few,
 };
 use net_types::{FaultKind, LineFault, List, OutOfMemory, Text};
 use std::alloc::Global;
@@ -152,7 +153,7 @@ fn fault_of_clause<'a>(
 {
     let tokens = line.tokens.as_slice();
     match clause_at(line) {
-        None => Some(fault(FaultKind::InvalidKeyword, 0)),
+        None => Some(fault_of_kind(FaultKind::InvalidKeyword, 0)),
         Some(Clause::Rule) => name_fault(tokens, naming, own_lines(after)),
         Some(clause) => {
             let role = role_of(part, clause);
@@ -172,13 +173,13 @@ fn name_fault(tokens: &[Text], naming: Naming, own: &[Line]) -> Option<Fault>
         return Some(too_few(tokens));
     }
     if is_over(naming) {
-        return Some(fault(FaultKind::OverLimit, 0));
+        return Some(fault_of_kind(FaultKind::OverLimit, 0));
     }
     if !is_past_tests(own_part(own)) {
-        return Some(fault(FaultKind::RuleSequence, 0));
+        return Some(fault_of_kind(FaultKind::RuleSequence, 0));
     }
     if is_repeated(naming) {
-        return Some(fault(FaultKind::DuplicateName, 1));
+        return Some(fault_of_kind(FaultKind::DuplicateName, 1));
     }
     None
 }
@@ -209,10 +210,10 @@ fn clause_fault(
         return Some(too_few(tokens));
     }
     if next_part(part, clause).is_none() {
-        return Some(fault(FaultKind::RuleSequence, 0));
+        return Some(fault_of_kind(FaultKind::RuleSequence, 0));
     }
     if full && is_limited(role) {
-        return Some(fault(FaultKind::OverLimit, 0));
+        return Some(fault_of_kind(FaultKind::OverLimit, 0));
     }
     None
 }

@@ -8,8 +8,8 @@ ghost use Rattle.inp_rules.specs.RuleValues.{subject_value as value_of_subject, 
 ghost use Rattle.inp_rules.specs.RuleValues.{up_to_one, what_of as what_of_subject};
 
 use crate::words::{Looked, Part, is_outside};
-use inp_forms::{Known, Objects, Value, What, fault, object_number, read_value};
-use inp_lines::{Fault, Naming};
+use inp_forms::{Known, Objects, Value, What, object_number, read_value};
+use inp_lines::{Fault, Naming, fault_of_kind};
 use inp_values::{Quantity, is_word, time_of_day};
 use net_types::{FaultKind, Subject, Text};
 
@@ -34,7 +34,7 @@ pub(crate) fn object<'a>(
 {
     match object_number(known, objects, name) {
         Some(number) => Ok(number),
-        None => Err(fault(FaultKind::UndefinedName, place)),
+        None => Err(fault_of_kind(FaultKind::UndefinedName, place)),
     }
 }
 
@@ -44,7 +44,7 @@ fn found(value: Option<i64>, kind: FaultKind, place: usize) -> Result<i64, Fault
 {
     match value {
         Some(value) => Ok(value),
-        None => Err(fault(kind, place)),
+        None => Err(fault_of_kind(kind, place)),
     }
 }
 
@@ -166,7 +166,7 @@ fn up_to_one(value: i64, place: usize) -> Result<i64, Fault>
     if value <= 1_000_000 {
         Ok(value)
     } else {
-        Err(fault(FaultKind::InvalidNumber, place))
+        Err(fault_of_kind(FaultKind::InvalidNumber, place))
     }
 }
 
@@ -175,7 +175,7 @@ fn setting<'a>(known: &Known<'a>, text: &'a [u8], place: usize) -> Result<i64, F
     ensures { result ≡ setting_at (context_of known.now) text.now place }
 {
     if is_outside(text) {
-        return Err(fault(FaultKind::NotInProfile, place));
+        return Err(fault_of_kind(FaultKind::NotInProfile, place));
     }
     match number(known, What::Number(Quantity::Coefficient), text, place) {
         Ok(value) => up_to_one(value, place),

@@ -2,7 +2,8 @@
 //!
 //! Each section is a table of the items of its lines, which its file in `src/` has; `specs/CrossSections` and
 //! `specs/Losses` say how the record is made of their values. A record has the number of its link; `place_sections` and
-//! `place_losses` give them to the links. The laws say that what lines mean lies in its ranges, and that each has a link.
+//! `place_losses` give them to the links. The laws say that what lines mean lies in its ranges, and that each has a
+//! link.
 #![tactic(auto)]
 
 mod cross_sections;

@@ -15,14 +15,14 @@ use Rattle.net_types.specs.declared.tables.Series.{Series}
 use Rattle.net_types.specs.Ranges.{CurveInRange, EntryInRange, PointInRange, SeriesInRange}
 use Rattle.net_types.specs.Sound.{NamesCurve}
 use Rattle.inp_lines.specs.declared.line.Line.{Line}
-use Rattle.inp_lines.specs.Faults.{token_at}
+use Rattle.inp_lines.specs.Faults.{token_at, fault_of_kind}
 use Rattle.inp_lines.specs.Gather.{gather}
 use Rattle.inp_lines.specs.Names.{number_in}
 use Rattle.inp_lines.specs.Readings.{is_long}
 use Rattle.inp_lines.specs.Sources.{FaultsIn}
 use Rattle.inp_lines.proofs.NameLemmas.{number_within}
 use Rattle.inp_lines.proofs.ZipLemmas.{zip_unique}
-use Rattle.inp_lists.specs.Chains.{chain_names, chain_records, chain_states, fault_of, kept, names_in, own_lines}
+use Rattle.inp_lists.specs.Chains.{chain_names, chain_records, chain_states, kept, names_in, own_lines}
 use Rattle.inp_lists.proofs.FaultlessLemmas.{Each, all_map, chain_faults_in, few_names, few_sizes, kept_whole, own_all, own_some, zip_map}
 use Rattle.inp_series.specs.declared.pairs.Axis.TheVariants.{Amounts}
 use Rattle.inp_series.specs.Pairs.{amount_of, are_no_pairs, pairs_fault, x_of}
@@ -42,8 +42,8 @@ or_none (Some a) b e = absurd (cc)
 
 -- ---- series
 no_file : (start : ℤ) (own : List Line) (line : Line) (b : Bool) → is_file line ≡ b → series_fault_in start own line ≡ None → (is_file line ≡ false) × (pairs_fault (axis_at start own line) (last_or None (times_in start own)) (series_place line) (series_pairs line) ≡ None)
-no_file start own line true e none = absurd (let bad = sym (ap (λ b. cond b (Some (fault_of NotInProfile 1)) (pairs_fault (axis_at start own line) (last_or None (times_in start own)) (series_place line) (series_pairs line))) e) ∙ none in cc)
-no_file start own line false e none = (e, sym (ap (λ b. cond b (Some (fault_of NotInProfile 1)) (pairs_fault (axis_at start own line) (last_or None (times_in start own)) (series_place line) (series_pairs line))) e) ∙ none)
+no_file start own line true e none = absurd (let bad = sym (ap (λ b. cond b (Some (fault_of_kind NotInProfile 1)) (pairs_fault (axis_at start own line) (last_or None (times_in start own)) (series_place line) (series_pairs line))) e) ∙ none in cc)
+no_file start own line false e none = (e, sym (ap (λ b. cond b (Some (fault_of_kind NotInProfile 1)) (pairs_fault (axis_at start own line) (last_or None (times_in start own)) (series_place line) (series_pairs line))) e) ∙ none)
 
 series_paired : (line : Line) → is_file line ≡ false → series_is_short line ≡ false → are_no_pairs (length (series_pairs line)) ≡ false
 series_paired line e short =

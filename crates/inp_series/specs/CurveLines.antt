@@ -14,10 +14,10 @@ use Rattle.inp_lines.specs.declared.fault.Fault.{Fault}
 use Rattle.inp_lines.specs.declared.line.Line.{Line}
 use Rattle.inp_lines.specs.declared.line.SectionName.{SectionName}
 use Rattle.inp_lines.specs.declared.line.SectionName.TheVariants as section
-use Rattle.inp_lines.specs.Faults.{token_at}
+use Rattle.inp_lines.specs.Faults.{token_at, fault_of_kind}
 use Rattle.inp_lines.specs.Gather.{gather, walk_fault}
 use Rattle.inp_lines.specs.Readings.{is_long}
-use Rattle.inp_lists.specs.Chains.{ChainForm, chain_fault, chain_names, chain_records, chain_states, fault_of}
+use Rattle.inp_lists.specs.Chains.{ChainForm, chain_fault, chain_names, chain_records, chain_states}
 use Rattle.inp_series.specs.declared.pairs.Axis.TheVariants.{Amounts}
 use Rattle.inp_series.specs.declared.curves.CurveState.{CurveState}
 use Rattle.inp_series.specs.Pairs.{xs_of, values_of, pairs_fault, are_no_pairs}
@@ -66,7 +66,7 @@ points_in own = gather (λ before line. values_of Amounts (curve_pairs before li
 
 -- another type isn't in this profile
 abbrev pub kind_fault : Option CurveKind → Option Fault
-kind_fault None = Some (fault_of NotInProfile 1)
+kind_fault None = Some (fault_of_kind NotInProfile 1)
 kind_fault (Some kind) = None
 
 -- The fault of a line, the first one of its curve or a later one, where this is the last x before it: the type, or the

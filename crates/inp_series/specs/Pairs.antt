@@ -11,7 +11,7 @@ use Rattle.inp_values.specs.declared.quantities.Quantity.TheVariants.{Raw}
 use Rattle.inp_values.specs.Duration.{hours_of}
 use Rattle.inp_values.specs.Units.{unit_for}
 use Rattle.inp_lines.specs.declared.fault.Fault.{Fault}
-use Rattle.inp_lists.specs.Chains.{fault_of}
+use Rattle.inp_lines.specs.Faults.{fault_of_kind}
 use Rattle.inp_series.specs.declared.pairs.Axis.{Axis}
 use Rattle.inp_series.specs.declared.pairs.Axis.TheVariants.{Amounts, Hours}
 
@@ -62,13 +62,13 @@ values_of axis _ = []
 -- The fault of a pair at a place: its first item has no value, or isn't greater than the last one before it that has a
 -- value; or else its second item has none.
 abbrev pub y_fault : ℕ → Option ℤ → Option Fault
-y_fault place None = Some (fault_of fault_kind.InvalidNumber place)
+y_fault place None = Some (fault_of_kind fault_kind.InvalidNumber place)
 y_fault place (Some y) = None
 
 abbrev pub pair_fault : Axis → Option ℤ → ℕ → Option ℤ → Option ℤ → Option Fault
-pair_fault axis last place None y = Some (fault_of (bad_kind axis) place)
+pair_fault axis last place None y = Some (fault_of_kind (bad_kind axis) place)
 pair_fault axis last place (Some x) y =
-    if follows last x then y_fault (place + 1) y else Some (fault_of (order_kind axis) place)
+    if follows last x then y_fault (place + 1) y else Some (fault_of_kind (order_kind axis) place)
 
 -- The first fault of pairs, whose items stand from a place on.
 abbrev pub pairs_fault : Axis → Option ℤ → ℕ → List (List ℕ) → Option Fault

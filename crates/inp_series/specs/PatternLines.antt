@@ -18,10 +18,10 @@ use Rattle.inp_lines.specs.declared.fault.Fault.{Fault}
 use Rattle.inp_lines.specs.declared.line.Line.{Line}
 use Rattle.inp_lines.specs.declared.line.SectionName.{SectionName}
 use Rattle.inp_lines.specs.declared.line.SectionName.TheVariants as section
-use Rattle.inp_lines.specs.Faults.{token_at}
+use Rattle.inp_lines.specs.Faults.{token_at, fault_of_kind}
 use Rattle.inp_lines.specs.Gather.{gather, walk_fault}
 use Rattle.inp_lines.specs.Readings.{is_long}
-use Rattle.inp_lists.specs.Chains.{ChainForm, chain_fault, chain_names, chain_records, fault_of}
+use Rattle.inp_lists.specs.Chains.{ChainForm, chain_fault, chain_names, chain_records}
 use Rattle.inp_series.specs.declared.patterns.PatternState.{PatternState}
 use Rattle.inp_series.specs.CurveLines.{is_first}
 
@@ -67,11 +67,11 @@ factors_left kind count = option_map (λ kind. most_factors kind - count) kind
 
 -- The fault of factors that stand from a place on, where so many may follow: one too many, or a text that isn't one.
 abbrev pub value_fault : ℕ → Option ℤ → Option Fault
-value_fault place None = Some (fault_of InvalidNumber place)
+value_fault place None = Some (fault_of_kind InvalidNumber place)
 value_fault place (Some factor) = None
 
 abbrev pub factor_fault : Option ℕ → ℕ → List ℕ → Option Fault
-factor_fault (Some zero) place text = Some (fault_of OverLimit place)
+factor_fault (Some zero) place text = Some (fault_of_kind OverLimit place)
 factor_fault (Some (suc left)) place text = value_fault place (factor_of text)
 factor_fault None place text = value_fault place (factor_of text)
 
@@ -81,7 +81,7 @@ factors_fault left place (text ∷ texts) = option_or (factor_fault left place t
     (factors_fault (option_map (λ n. n - 1) left) (place + 1) texts)
 
 abbrev pub pattern_kind_fault : Option PatternKind → Option Fault
-pattern_kind_fault None = Some (fault_of InvalidKeyword 1)
+pattern_kind_fault None = Some (fault_of_kind InvalidKeyword 1)
 pattern_kind_fault (Some kind) = None
 
 -- the type of the pattern of a line by the lines before it

@@ -12,10 +12,10 @@ use Rattle.inp_lines.specs.declared.fault.Fault.{Fault}
 use Rattle.inp_lines.specs.declared.line.Line.{Line}
 use Rattle.inp_lines.specs.declared.line.SectionName.{SectionName}
 use Rattle.inp_lines.specs.declared.line.SectionName.TheVariants as section
-use Rattle.inp_lines.specs.Faults.{token_at}
+use Rattle.inp_lines.specs.Faults.{token_at, fault_of_kind}
 use Rattle.inp_lines.specs.Gather.{gather, walk_fault}
 use Rattle.inp_lines.specs.Readings.{is_long}
-use Rattle.inp_lists.specs.Chains.{ChainForm, chain_fault, chain_names, chain_records, fault_of}
+use Rattle.inp_lists.specs.Chains.{ChainForm, chain_fault, chain_names, chain_records}
 use Rattle.inp_series.specs.declared.pairs.Axis.{Axis}
 use Rattle.inp_series.specs.declared.pairs.Axis.TheVariants.{Hours}
 use Rattle.inp_series.specs.declared.series.SeriesState.{SeriesState}
@@ -67,7 +67,7 @@ series_is_short line = not (is_file line) && are_no_pairs (length line.tokens - 
 
 -- The fault of a line where this date holds, and this is the last time before it: a file, or the first pair at fault.
 abbrev pub fault_with : ℤ → Option ℤ → Option ℤ → Line → Option Fault
-fault_with start date last line = if is_file line then Some (fault_of NotInProfile 1)
+fault_with start date last line = if is_file line then Some (fault_of_kind NotInProfile 1)
     else pairs_fault (Hours start date) last (series_place line) (series_pairs line)
 
 abbrev pub series_fault_in : ℤ → List Line → Line → Option Fault

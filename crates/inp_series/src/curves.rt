@@ -12,8 +12,8 @@ ghost use Rattle.inp_series.specs.CurveLines.{fault_with, is_curve_line, kind_fa
 ghost use Rattle.inp_series.specs.Pairs.{are_no_pairs};
 
 use crate::pairs::{Axis, add_pairs, are_no_pairs, from_place, last_x, pairs_fault};
-use inp_lines::{Fault, Line, SectionName, is_too_long};
-use inp_lists::{Chain, Chained, fault, read_chain, text_at};
+use inp_lines::{Fault, Line, SectionName, fault_of_kind, is_too_long};
+use inp_lists::{Chain, Chained, read_chain, text_at};
 use inp_values::is_word;
 use net_types::{Curve, CurveKind, FaultKind, List, OutOfMemory, Text};
 use std::alloc::Global;
@@ -89,7 +89,7 @@ fn kind_fault(kind: Option<CurveKind>) -> Option<Fault>
     ensures { result ≡ kind_fault kind }
 {
     match kind {
-        None => Some(fault(FaultKind::NotInProfile, 1)),
+        None => Some(fault_of_kind(FaultKind::NotInProfile, 1)),
         Some(_) => None,
     }
 }

@@ -11,8 +11,7 @@ ghost use Rattle.inp_series.specs.Pairs.{pairs_fault, values_of, x_of, xs_of};
 ghost use Rattle.inp_series.specs.Axes.{IsAxis};
 
 use fixed_num::scaled_decimal;
-use inp_lines::Fault;
-use inp_lists::fault;
+use inp_lines::{Fault, fault_of_kind};
 use inp_values::{Quantity, hours, unit_of};
 use net_types::{FaultKind, FlowUnits, List, OutOfMemory, Text};
 
@@ -130,13 +129,13 @@ fn pair_fault(
     ensures { result ≡ pair_fault axis last place x y }
 {
     let Some(x) = x else {
-        return Some(fault(bad_kind(axis), place));
+        return Some(fault_of_kind(bad_kind(axis), place));
     };
     if !follows(last, x) {
-        return Some(fault(order_kind(axis), place));
+        return Some(fault_of_kind(order_kind(axis), place));
     }
     match y {
-        None => Some(fault(FaultKind::InvalidNumber, place + 1)),
+        None => Some(fault_of_kind(FaultKind::InvalidNumber, place + 1)),
         Some(_) => None,
     }
 }

@@ -15,8 +15,8 @@ ghost use Rattle.inp_series.specs.PatternLines.{pattern_kind_of, pattern_names, 
 
 use crate::pairs::from_place;
 use fixed_num::scaled_decimal;
-use inp_lines::{Fault, Line, SectionName, is_too_long};
-use inp_lists::{Chain, Chained, fault, read_chain, text_at};
+use inp_lines::{Fault, Line, SectionName, fault_of_kind, is_too_long};
+use inp_lists::{Chain, Chained, read_chain, text_at};
 use inp_values::{Quantity, is_word, unit_of};
 use net_types::{FaultKind, FlowUnits, List, OutOfMemory, Pattern, PatternKind, Text};
 use std::alloc::Global;
@@ -109,10 +109,10 @@ fn factor_fault(left: Option<usize>, place: usize, text: &[u8]) -> Option<Fault>
     ensures { result ≡ factor_fault left place text.now }
 {
     if let Some(0) = left {
-        return Some(fault(FaultKind::OverLimit, place));
+        return Some(fault_of_kind(FaultKind::OverLimit, place));
     }
     match factor(text) {
-        None => Some(fault(FaultKind::InvalidNumber, place)),
+        None => Some(fault_of_kind(FaultKind::InvalidNumber, place)),
         Some(_) => None,
     }
 }
@@ -176,7 +176,7 @@ fn kind_fault(kind: Option<PatternKind>) -> Option<Fault>
     ensures { result ≡ pattern_kind_fault kind }
 {
     match kind {
-        None => Some(fault(FaultKind::InvalidKeyword, 1)),
+        None => Some(fault_of_kind(FaultKind::InvalidKeyword, 1)),
         Some(_) => None,
     }
 }

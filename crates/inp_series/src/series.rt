@@ -11,8 +11,8 @@ ghost use Rattle.inp_series.specs.SeriesLines.{series_form, series_is_short, ser
 ghost use Rattle.inp_series.specs.SeriesLines.{series_place};
 
 use crate::pairs::{Axis, add_pairs, are_no_pairs, from_place, last_x, pairs_fault};
-use inp_lines::{Fault, Line, SectionName, is_too_long};
-use inp_lists::{Chain, Chained, fault, read_chain, text_at};
+use inp_lines::{Fault, Line, SectionName, fault_of_kind, is_too_long};
+use inp_lists::{Chain, Chained, read_chain, text_at};
 use inp_values::{date, is_word};
 use net_types::{FaultKind, List, OutOfMemory, Series, Text};
 use std::alloc::Global;
@@ -124,7 +124,7 @@ fn fault_of_line(start: i64, date: Option<i32>, last: Option<i64>, line: &Line) 
     ensures { result ≡ fault_with start date last line.now }
 {
     if is_file(line) {
-        return Some(fault(FaultKind::NotInProfile, 1));
+        return Some(fault_of_kind(FaultKind::NotInProfile, 1));
     }
     pairs_fault(
         Axis::Hours(start, date),

@@ -1,5 +1,6 @@
 -- Clock times `h:mm` and `h:mm:ss` (this project's profile).
-use Rattle.std.specs.Prelude.{◌≡◌, ℕ, ◌+◌, ◌-◌, ◌*◌, ◌<◌, ◌&&◌, ◌==◌, nat_lt, if◌then◌else◌, List, [], ◌∷◌, ◌++◌, ℤ, pos, ◌<ℤ◌, int_lt}
+use Rattle.std.specs.Prelude.{◌≡◌, ℕ, ◌+◌, ◌-◌, ◌*◌, ◌<◌, ◌&&◌, ◌==◌, nat_lt}
+use Rattle.std.specs.Prelude.{if◌then◌else◌, List, [], ◌∷◌, ◌++◌, ℤ, pos, ◌<ℤ◌, int_lt}
 use Rattle.std.specs.Char.{is_ascii_digit}
 use Rattle.std.specs.List.{take_while}
 use Rattle.std.specs.declared.option.Option.{Option}
@@ -10,7 +11,8 @@ use Rattle.inp_values.specs.Field.{IsField, field_of}
 -- what follows the hours: a colon and minutes, perhaps a colon and seconds, of two digits each
 pub data IsClockEnd : List ℕ → ℕ → ℕ → Type 0 where
   minutes_alone : {minutes : List ℕ} {m : ℕ} → IsField 2 2 minutes m → IsClockEnd (58 ∷ minutes) m 0
-  with_seconds : {minutes seconds : List ℕ} {m s : ℕ} → IsField 2 2 minutes m → IsField 2 2 seconds s → IsClockEnd (58 ∷ (minutes ++ (58 ∷ seconds))) m s
+  with_seconds : {minutes seconds : List ℕ} {m s : ℕ} → IsField 2 2 minutes m → IsField 2 2 seconds s
+      → IsClockEnd (58 ∷ (minutes ++ (58 ∷ seconds))) m s
 
 -- the text is a clock of so many ms: one to five digits of hours, minutes and seconds below 60
 pub record IsClock (text : List ℕ) (ms : ℤ) : Type 0 where

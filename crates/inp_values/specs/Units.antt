@@ -4,7 +4,10 @@ use Rattle.net_types.specs.declared.options.FlowUnits.{FlowUnits}
 use Rattle.net_types.specs.declared.options.FlowUnits.TheVariants.{Cfs, Gpm, Mgd, Cms, Lps, Mld}
 use Rattle.fixed_num.specs.declared.unit.Unit.{Unit as Scale}
 use Rattle.inp_values.specs.declared.quantities.Quantity.{Quantity}
-use Rattle.inp_values.specs.declared.quantities.Quantity.TheVariants.{ConduitLength, Elevation, Depth, Width, SmallDepth, Rate, LandArea, NodeArea, Volume, Flow, Roughness, Percent, Coefficient, Raw, Days}
+use Rattle.inp_values.specs.declared.quantities.Quantity.TheVariants.{ConduitLength, Elevation, Depth, Width}
+use Rattle.inp_values.specs.declared.quantities.Quantity.TheVariants.{SmallDepth, Rate, LandArea, NodeArea, Volume}
+use Rattle.inp_values.specs.declared.quantities.Quantity.TheVariants.{Flow, Roughness, Percent, Coefficient, Raw}
+use Rattle.inp_values.specs.declared.quantities.Quantity.TheVariants.{Days}
 
 -- CFS, GPM and MGD bring US units for all quantities
 abbrev pub is_us : FlowUnits → Bool
@@ -48,9 +51,11 @@ unit_for units Depth = scale (by_system units 304_800 1_000_000) 1 (pos 0) (pos 
 unit_for units Width = scale (by_system units 304_800 1_000_000) 1 (pos 0) (pos (10 ^ 10))
 unit_for units SmallDepth = scale (by_system units 25_400_000 1_000_000) 1 (pos 0) (pos (10 ^ 10))
 unit_for units Rate = scale (by_system units 25_400_000 1_000_000) 1 (pos 0) (pos (10 ^ 10))
-unit_for units LandArea = scale (by_system units 40_468_564_224 (10 ^ 10)) (by_system units 10 1) (pos (10 ^ 6)) (pos (10 ^ 16))
+unit_for units LandArea =
+    scale (by_system units 40_468_564_224 (10 ^ 10)) (by_system units 10 1) (pos (10 ^ 6)) (pos (10 ^ 16))
 unit_for units NodeArea = scale (by_system units 9_290_304 (10 ^ 6)) (by_system units 100 1) (pos 0) (pos (10 ^ 13))
-unit_for units Volume = scale (by_system units 28_316_846_592 (10 ^ 9)) (by_system units 1_000 1) (neg_ℤ (pos (10 ^ 18))) (pos (10 ^ 18))
+unit_for units Volume =
+    scale (by_system units 28_316_846_592 (10 ^ 9)) (by_system units 1_000 1) (neg_ℤ (pos (10 ^ 18))) (pos (10 ^ 18))
 unit_for units Flow = scale (flow_num units) (flow_den units) (neg_ℤ (pos (10 ^ 12))) (pos (10 ^ 12))
 unit_for units Roughness = scale 1_000_000 1 (pos 1_000) (pos (10 ^ 6))
 unit_for units Percent = scale 10_000 1 (pos 0) (pos (10 ^ 6))

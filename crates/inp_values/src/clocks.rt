@@ -1,11 +1,12 @@
 ghost use Rattle.std.specs.Prelude.{◌≡◌, ℤ, pos, ◌<◌, ◌^◌, IfSome, IfNone, Some};
 ghost use Rattle.fixed_num.specs.Ranges.{IsBetween, IsEven};
-ghost use Rattle.inp_values.specs.Clock.{IsClock, IsTimeOfDay, below_a_day, clock_end_of, clock_of, ms_in, seconds_in, sixtieths_of, time_of_day_of};
+ghost use Rattle.inp_values.specs.Clock.{IsClock, IsTimeOfDay, below_a_day, clock_end_of, clock_of};
+ghost use Rattle.inp_values.specs.Clock.{ms_in, seconds_in, sixtieths_of, time_of_day_of};
 
 use crate::wholes::{field, split_digits};
 
-/// The ms that a clock `h:mm` or `h:mm:ss` writes, and none for every other text: one to five digits of hours, two digits each of
-/// minutes and seconds below 60 (this project's profile).
+/// The ms that a clock `h:mm` or `h:mm:ss` writes, and none for every other text: one to five digits of hours, two
+/// digits each of minutes and seconds below 60 (this project's profile).
 pub fn clock(text: &[u8]) -> Option<i64>
     ensures some { IfSome result (IsClock text.now) }
     ensures none { IfNone result ((ms : ℤ) → ¬ (IsClock text.now ms)) }
@@ -17,7 +18,8 @@ pub fn clock(text: &[u8]) -> Option<i64>
     ms_of(field(front, 1, 5), clock_end(rest))
 }
 
-/// The same of a clock whose hours are below 24, and none for every other text (User's Manual, section [OPTIONS], START_TIME).
+/// The same of a clock whose hours are below 24, and none for every other text (User's Manual, section [OPTIONS],
+/// START_TIME).
 pub fn time_of_day(text: &[u8]) -> Option<i64>
     ensures some { IfSome result (IsTimeOfDay text.now) }
     ensures none { IfNone result ((ms : ℤ) → ¬ (IsTimeOfDay text.now ms)) }

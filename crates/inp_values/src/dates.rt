@@ -5,8 +5,8 @@ ghost use Rattle.inp_values.specs.CalendarDate.{IsDate, date_of, date_after, yea
 use crate::wholes::{field, split_digits};
 use calendar_steps::day_of;
 
-/// The days from 1970-01-01 to the date `m/d/yyyy` or `m-d-yyyy`, and none for every other text: month first, one or two digits
-/// of month and day, four of the year, a real day of the years 1900 to 2100 (this project's profile).
+/// The days from 1970-01-01 to the date `m/d/yyyy` or `m-d-yyyy`, and none for every other text: month first, one or
+/// two digits of month and day, four of the year, a real day of the years 1900 to 2100 (this project's profile).
 pub fn date(text: &[u8]) -> Option<i64>
     ensures some { IfSome result (IsDate text.now) }
     ensures none { IfNone result ((number : ℤ) → ¬ (IsDate text.now number)) }

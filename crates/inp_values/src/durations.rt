@@ -34,8 +34,8 @@ pub fn hours(text: &[u8]) -> Option<i64>
     }
 }
 
-/// The ms of seconds that are written as a clock or as a number, even and from 0 to 10^12 ms, and none for every other text (this
-/// project's profile). A number of seconds is rounded to units of 2 ms.
+/// The ms of seconds that are written as a clock or as a number, even and from 0 to 10^12 ms, and none for every other
+/// text (this project's profile). A number of seconds is rounded to units of 2 ms.
 pub fn seconds(text: &[u8]) -> Option<i64>
     ensures some { IfSome result (IsSeconds text.now) }
     ensures none { IfNone result ((ms : ℤ) → ¬ (IsSeconds text.now ms)) }

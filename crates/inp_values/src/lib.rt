@@ -1,8 +1,8 @@
 //! Values of the texts of an input: whole numbers, clocks, dates, durations, switches, keywords and units.
 //!
 //! Each function gives a value exactly where the text has its form and its value lies in the range, and none elsewhere.
-//! The contract that matters has both sides: the relation between text and value (`IsClock`, `IsDate`, `IsHours`, ..), and the
-//! function (`clock_of`, `date_of`, `hours_of`, ..) with which the definitions of an input's lines are written.
+//! The contract that matters has both sides: the relation between text and value (`IsClock`, `IsDate`, `IsHours`, ..),
+//! and the function (`clock_of`, `date_of`, `hours_of`, ..) with which the definitions of an input's lines are written.
 //! They are defined in `specs/`, a file for each kind of text; the units are the table of `specs/Units`.
 #![tactic(auto)]
 

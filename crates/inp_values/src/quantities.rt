@@ -5,8 +5,9 @@ ghost use Rattle.inp_values.specs.Units.{by_system, flow_den, flow_num, scale, u
 use fixed_num::Unit;
 use net_types::FlowUnits;
 
-/// What a number of an input measures, which settles its unit and its range (this project's profile). Lengths are stored in µm
-/// (small depths in nm), rates in nm/h, areas in mm², volumes in mm³, flows in cm³/s, days in ms, and the others in millionths.
+/// What a number of an input measures, which settles its unit and its range (this project's profile). Lengths are
+/// stored in µm (small depths in nm), rates in nm/h, areas in mm², volumes in mm³, flows in cm³/s, days in ms, and the
+/// others in millionths.
 #[derive(Clone, Copy, Debug, PartialEq, Eq)]
 pub enum Quantity {
     ConduitLength,
@@ -26,8 +27,8 @@ pub enum Quantity {
     Days,
 }
 
-/// The unit of a quantity under the flow units of an input, with the range of its stored values (this project's profile). A
-/// volume has the range of this project's own choice, 10^18 mm³ to either side.
+/// The unit of a quantity under the flow units of an input, with the range of its stored values (this project's
+/// profile). A volume has the range of this project's own choice, 10^18 mm³ to either side.
 pub fn unit_of(units: FlowUnits, quantity: Quantity) -> Unit
     ensures value { result ≡ unit_for units quantity }
     ensures unit { IsUnit result }

@@ -4,8 +4,8 @@ ghost use Rattle.std.specs.List.{list_all, take_while};
 ghost use Rattle.fixed_num.specs.Number.{AreDigits, digits_after, past_digits};
 ghost use Rattle.inp_values.specs.Field.{IsField, IsWhole, field_of, is_field, whole_of};
 
-/// The whole number that a text of one to nine digits and nothing else writes, from 0 to 999,999,999, and none for every other
-/// text (this project's profile).
+/// The whole number that a text of one to nine digits and nothing else writes, from 0 to 999,999,999, and none for
+/// every other text (this project's profile).
 pub fn whole(text: &[u8]) -> Option<u32>
     ensures some { IfSome result (IsWhole text.now) }
     ensures none { IfNone result ((n : ℕ) → ¬ (IsWhole text.now n)) }

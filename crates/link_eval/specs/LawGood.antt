@@ -40,7 +40,8 @@ least_of true q m h k = record { from = omega (arith, ints); to = omega (arith, 
 least_of false q m h k = record { from = omega (arith, ints, clamps); to = omega (arith, ints, clamps) }
 
 -- the greatest flow of one of n barrels
-greatest-between : (q_max : ℤ) (n : ℕ) → pos 0 ≤ℤ q_max → IsBetween (pos 0) (greatest_of q_max (pos n)) (pos (10 ^ 12 / n))
+greatest-between : (q_max : ℤ) (n : ℕ) → pos 0 ≤ℤ q_max
+    → IsBetween (pos 0) (greatest_of q_max (pos n)) (pos (10 ^ 12 / n))
 unfolding greatest_of
 greatest-between q_max n h = least_of (int_eq q_max (pos 0)) q_max (pos (10 ^ 12 / n)) h (omega (arith, ints))
 
@@ -51,17 +52,22 @@ held-within : (q_max : ℤ) (n : ℕ) (q : ℤ) → pos 0 ≤ℤ q_max → IsWit
 unfolding held_of
 held-within q_max n q h =
     let most = greatest-between q_max n h in
-    within_cut q (opposite (greatest_of q_max (pos n)) most.from) (within_neg (within_between most)) (within_between most)
+    within_cut q (opposite (greatest_of q_max (pos n)) most.from) (within_neg (within_between most))
+    (within_between most)
 
 all_barrels : (n : ℕ) {q : ℤ} → IsWithin (10 ^ 12 / n) q → IsFlow (pos n *ℤ q)
-all_barrels n h = let p = within_mul (within_number n) h in record { within = omega (arith, p.within, mul-div-le (10 ^ 12) n) }
+all_barrels n h =
+    let p = within_mul (within_number n) h in record { within = omega (arith, p.within, mul-div-le (10 ^ 12) n) }
 
-held-flow : (q_max barrels q : ℤ) → pos 0 ≤ℤ q_max → IsBetween (pos 1) barrels (pos 100) → IsFlow (barrels *ℤ held_of q_max barrels q)
+held-flow : (q_max barrels q : ℤ) → pos 0 ≤ℤ q_max → IsBetween (pos 1) barrels (pos 100)
+    → IsFlow (barrels *ℤ held_of q_max barrels q)
 held-flow q_max (pos n) q h b = all_barrels n (held-within q_max n q h)
 held-flow q_max (negsuc n) q h b = absurd b.from.le
 
-wet_share-in_range : {conduit : ConduitData} {table : SectionTable} (fixed : LinkFixed) (first : Bool) (near far last : ℤ) → IsConduit conduit → IsConduitTable table
-    → ShareInRange (wet_share_of conduit table fixed (ends_of conduit table near far) (middle_of table (mean_depth_of conduit near far)) first last)
+wet_share-in_range : {conduit : ConduitData} {table : SectionTable} (fixed : LinkFixed) (first : Bool)
+    (near far last : ℤ) → IsConduit conduit → IsConduitTable table
+    → ShareInRange (wet_share_of conduit table fixed (ends_of conduit table near far)
+    (middle_of table (mean_depth_of conduit near far)) first last)
 unfolding wet_share_of barrel_flow_of ends_of middle_of
 wet_share-in_range {conduit} {table} fixed first near far last c t =
     let mid = width_of-between (mean_depth_of conduit near far) t.rows in
@@ -86,7 +92,8 @@ no_share-in_range = record {
   time = record { from = omega (arith, ints); to = omega (arith, ints) };
 }
 
-pub share-in_range : {conduit : ConduitData} {table : SectionTable} (fixed : LinkFixed) (first : Bool) (near far last : ℤ)
+pub share-in_range : {conduit : ConduitData} {table : SectionTable} (fixed : LinkFixed) (first : Bool)
+    (near far last : ℤ)
     → IsConduit conduit → IsConduitTable table → ShareInRange (share_of conduit table fixed first near far last)
 unfolding share_of open_share_of
 share-in_range {conduit} {table} fixed first near far last c t =
@@ -95,13 +102,18 @@ share-in_range {conduit} {table} fixed first near far last c t =
     (wet_share-in_range fixed first near far last c t))
 
 -- ---- the share of a link
-rule_share-in_range : (h : Hydraulics) (rule : LinkRule) (node : ℕ) (fixed : LinkFixed) (first : Bool) (near far last : ℤ) → IsLinkRule rule
+rule_share-in_range : (h : Hydraulics) (rule : LinkRule) (node : ℕ) (fixed : LinkFixed) (first : Bool)
+    (near far last : ℤ) → IsLinkRule rule
     → ShareInRange (rule_share h rule node fixed first near far last)
 unfolding pump_share_of orifice_share_of weir_share_of
-rule_share-in_range h (ConduitRule law) node fixed first near far last r = share-in_range fixed first near far last r.conduit r.table
-rule_share-in_range h (PumpRule law) node fixed first near far last r = short_share-in_range law.ends first near far last _
-rule_share-in_range h (OrificeRule law) node fixed first near far last r = short_share-in_range law.ends first near far last _
-rule_share-in_range h (WeirRule law) node fixed first near far last r = short_share-in_range law.ends first near far last _
+rule_share-in_range h (ConduitRule law) node fixed first near far last r =
+    share-in_range fixed first near far last r.conduit r.table
+rule_share-in_range h (PumpRule law) node fixed first near far last r =
+    short_share-in_range law.ends first near far last _
+rule_share-in_range h (OrificeRule law) node fixed first near far last r =
+    short_share-in_range law.ends first near far last _
+rule_share-in_range h (WeirRule law) node fixed first near far last r =
+    short_share-in_range law.ends first near far last _
 
 -- ---- the next head of a node
 pub head_in : (h : Hydraulics) {head : ℤ} → HeadInRange (law_of h) head → IsHead head
@@ -128,9 +140,13 @@ law_good h g = record {
   limit_most = omega arith;
   ends_in = λ l inside. (g.links l inside).ends;
   share_in = λ l fixed first near far last inside in_fixed in_near in_far in_last.
-      rule_share-in_range h (link_law_at h l).rule (link_law_at h l).first fixed first near far last (g.links l inside).rule;
+      rule_share-in_range h (link_law_at h l).rule (link_law_at h l).first fixed first near far last
+      (g.links l inside).rule;
   next_in = λ n fixed first inflow outflow area last inside in_fixed in_sums in_last.
-      record { within = (next_within first inflow outflow area (g.nodes n inside) (fixed_in h in_fixed) (head_in h in_last)).within };
+      record {
+        within = (next_within first inflow outflow area (g.nodes n inside) (fixed_in h in_fixed)
+            (head_in h in_last)).within;
+      };
 }
 
 -- ---- what is in range is in the law's ranges

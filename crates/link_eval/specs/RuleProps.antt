@@ -1,5 +1,5 @@
--- The ranges of a link's rule have one proof at most: proofs, which stand here since the fact that a struct holds of its
--- laws cites them.
+-- The ranges of a link's rule have one proof at most: proofs, which stand here since the fact that a struct holds of
+-- its laws cites them.
 use Rattle.std.specs.Prelude.{ℕ}
 use Rattle.std.proofs.Props.{props}
 use Rattle.node_update.specs.RuleProps.{node_rule_prop}

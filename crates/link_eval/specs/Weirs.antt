@@ -22,7 +22,8 @@ given_width (Triangular top) = top
 given_width Circular = pos 0
 
 -- a weir as it is routed: its crest lies at the invert of its first node and its offset
-abbrev pub weir_law_of : (notch : Bool) → (crest c6 : ℤ) → (flap : Bool) → (contractions : ℤ) → Section → LinkEnds → WeirLaw
+abbrev pub weir_law_of : (notch : Bool) → (crest c6 : ℤ) → (flap : Bool) → (contractions : ℤ) → Section
+    → LinkEnds → WeirLaw
 weir_law_of notch crest c6 flap contractions section ends = record {
   ends = short_link_of ends flap;
   weir = record {

@@ -7,8 +7,8 @@ use Rattle.net_types.specs.declared.options.Limiter.TheVariants.{Both}
 use Rattle.net_types.specs.declared.options.Options.{Options}
 use Rattle.net_types.specs.declared.project.Project.{Project}
 
--- the options of an input that sets none (User's Manual, section [OPTIONS]; this project's profile): which starts and ends with the first
--- moment of 2002-01-01
+-- the options of an input that sets none (User's Manual, section [OPTIONS]; this project's profile): which starts and
+-- ends with the first moment of 2002-01-01
 abbrev pub default_options : Options
 default_options = record {
   units = Cfs;

@@ -1,10 +1,13 @@
--- The number and the words of each kind of fault (User's Manual, appendix E, error messages; the numbers from 401 on and
--- the words are this project's profile).
+-- The number and the words of each kind of fault (User's Manual, appendix E, error messages; the numbers from 401 on
+-- and the words are this project's profile).
 use Rattle.std.specs.Prelude.{ℕ, ◌==◌, List, codes, if◌then◌else◌}
 use Rattle.net_types.specs.declared.faults.FaultKind.{FaultKind}
-use Rattle.net_types.specs.declared.faults.FaultKind.TheVariants.{InitialDepth, OutfallLinks, NoOutfall, CurveOrder, EndBeforeStart, SeriesOrder}
-use Rattle.net_types.specs.declared.faults.FaultKind.TheVariants.{TooFewItems, InvalidKeyword, DuplicateName, UndefinedName, InvalidNumber}
-use Rattle.net_types.specs.declared.faults.FaultKind.TheVariants.{InvalidTime, RuleSequence, NotInProfile, OverLimit, BadObject}
+use Rattle.net_types.specs.declared.faults.FaultKind.TheVariants.{InitialDepth, OutfallLinks, NoOutfall}
+use Rattle.net_types.specs.declared.faults.FaultKind.TheVariants.{CurveOrder, EndBeforeStart, SeriesOrder}
+use Rattle.net_types.specs.declared.faults.FaultKind.TheVariants.{TooFewItems, InvalidKeyword, DuplicateName}
+use Rattle.net_types.specs.declared.faults.FaultKind.TheVariants.{UndefinedName, InvalidNumber}
+use Rattle.net_types.specs.declared.faults.FaultKind.TheVariants.{InvalidTime, RuleSequence}
+use Rattle.net_types.specs.declared.faults.FaultKind.TheVariants.{NotInProfile, OverLimit, BadObject}
 
 abbrev pub number_of : FaultKind → ℕ
 number_of InitialDepth = 138
@@ -46,8 +49,10 @@ words_of BadObject = codes "bad object"
 abbrev pub kind_of : ℕ → FaultKind
 kind_of number =
     if number == 138 then InitialDepth else if number == 141 then OutfallLinks else if number == 145 then NoOutfall
-    else if number == 171 then CurveOrder else if number == 173 then SeriesOrder else if number == 191 then EndBeforeStart
-    else if number == 203 then TooFewItems else if number == 205 then InvalidKeyword else if number == 207 then DuplicateName
-    else if number == 209 then UndefinedName else if number == 211 then InvalidNumber else if number == 213 then InvalidTime
-    else if number == 217 then RuleSequence else if number == 401 then NotInProfile else if number == 402 then OverLimit
+    else if number == 171 then CurveOrder else if number == 173 then SeriesOrder
+    else if number == 191 then EndBeforeStart else if number == 203 then TooFewItems
+    else if number == 205 then InvalidKeyword else if number == 207 then DuplicateName
+    else if number == 209 then UndefinedName else if number == 211 then InvalidNumber
+    else if number == 213 then InvalidTime else if number == 217 then RuleSequence
+    else if number == 401 then NotInProfile else if number == 402 then OverLimit
     else BadObject

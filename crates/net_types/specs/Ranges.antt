@@ -2,8 +2,10 @@
 use Rattle.std.specs.Prelude.{◌≡◌, ℕ, ◌*◌, ◌^◌, ◌<◌, ◌≤◌, List, length, IfSome, ℤ, pos, ◌<ℤ◌}
 use Rattle.std.specs.Bool.{⊤}
 use Rattle.std.specs.List.{All}
-use Rattle.fixed_num.specs.Ranges.{IsBetween, IsConduitLength, IsElevation, IsDepth, IsFullHeight, IsWidth, AreBarrels, IsSmallDepth, IsRate}
-use Rattle.fixed_num.specs.Ranges.{IsLandArea, IsNodeArea, IsLeastArea, IsFlow, IsFlowLimit, IsRoughness, IsPart, IsCoefficient, IsRaw, IsRawAmount}
+use Rattle.fixed_num.specs.Ranges.{IsBetween, IsConduitLength, IsElevation, IsDepth}
+use Rattle.fixed_num.specs.Ranges.{IsFullHeight, IsWidth, AreBarrels, IsSmallDepth, IsRate}
+use Rattle.fixed_num.specs.Ranges.{IsLandArea, IsNodeArea, IsLeastArea, IsFlow, IsFlowLimit}
+use Rattle.fixed_num.specs.Ranges.{IsRoughness, IsPart, IsCoefficient, IsRaw, IsRawAmount}
 use Rattle.fixed_num.specs.Ranges.{IsDryingTime, IsDuration, IsTimeOfDay, IsSeriesTime, IsMoment, IsEven}
 use Rattle.net_types.specs.declared.hydrology.Gage.{Gage}
 use Rattle.net_types.specs.declared.hydrology.Infil.{Infil}
@@ -31,7 +33,8 @@ use Rattle.net_types.specs.declared.options.Options.{Options}
 use Rattle.net_types.specs.declared.rules.Action.{Action}
 use Rattle.net_types.specs.declared.rules.Rule.{Rule}
 use Rattle.net_types.specs.declared.rules.Subject.{Subject}
-use Rattle.net_types.specs.declared.rules.Subject.TheVariants.{NodeDepth, NodeHead, NodeInflow, LinkFlow, LinkSetting, Elapsed, ClockTime, Month, Weekday}
+use Rattle.net_types.specs.declared.rules.Subject.TheVariants.{NodeDepth, NodeHead, NodeInflow, LinkFlow}
+use Rattle.net_types.specs.declared.rules.Subject.TheVariants.{LinkSetting, Elapsed, ClockTime, Month, Weekday}
 use Rattle.net_types.specs.declared.rules.Test.{Test}
 use Rattle.net_types.specs.declared.tables.Curve.{Curve}
 use Rattle.net_types.specs.declared.tables.Pattern.{Pattern}
@@ -40,8 +43,9 @@ use Rattle.net_types.specs.declared.tables.PatternKind.TheVariants.{Monthly, Dai
 use Rattle.net_types.specs.declared.tables.Series.{Series}
 use Rattle.net_types.specs.Records.{pair_at}
 
--- ---- options: moments of the years 1900 to 2200, steps, least area and tolerance of nodes, 1 to 20 trials, and a part of
--- the travel time of 0 to 2; start, end and routing step are even numbers of ms, and the runoff step is in whole seconds
+-- ---- options: moments of the years 1900 to 2200, steps, least area and tolerance of nodes, 1 to 20 trials, and a part
+-- of the travel time of 0 to 2; start, end and routing step are even numbers of ms, and the runoff step is in whole
+-- seconds
 pub record OptionsInRange (options : Options) : Type 0 where
   pub start_in : IsMoment options.start
   pub start_even : IsEven options.start
@@ -177,7 +181,8 @@ pub record WeirInRange (crest cd6 contractions : ℤ) : Type 0 where
   pub contractions_in : IsBetween (pos 0) contractions (pos 2)
 
 abbrev pub LinkKindInRange : LinkKind → Type 0
-LinkKindInRange (Conduit long n6 z1 z2 q0 q_max entry6 exit6 avg6 flap) = ConduitInRange long n6 z1 z2 q0 q_max entry6 exit6 avg6
+LinkKindInRange (Conduit long n6 z1 z2 q0 q_max entry6 exit6 avg6 flap) =
+    ConduitInRange long n6 z1 z2 q0 q_max entry6 exit6 avg6
 LinkKindInRange (Pump curve on startup shutoff) = PumpInRange startup shutoff
 LinkKindInRange (Orifice bottom offset cd6 flap) = OrificeInRange offset cd6
 LinkKindInRange (Weir notch crest cd6 flap contractions) = WeirInRange crest cd6 contractions

@@ -1,5 +1,5 @@
--- A sound project: its records lie in their ranges, its numbers name objects of it, and none of its counts is over a limit
--- (this project's profile).
+-- A sound project: its records lie in their ranges, its numbers name objects of it, and none of its counts is over a
+-- limit (this project's profile).
 use Rattle.std.specs.Prelude.{◌≡◌, ℕ, ◌+◌, ◌<◌, ◌≤◌, List, length, sum_by, IfSome}
 use Rattle.std.specs.Bool.{⊤}
 use Rattle.std.specs.List.{All}
@@ -22,12 +22,15 @@ use Rattle.net_types.specs.declared.project.Project.{Project}
 use Rattle.net_types.specs.declared.rules.Action.{Action}
 use Rattle.net_types.specs.declared.rules.Rule.{Rule}
 use Rattle.net_types.specs.declared.rules.Subject.{Subject}
-use Rattle.net_types.specs.declared.rules.Subject.TheVariants.{NodeDepth, NodeHead, NodeInflow, LinkFlow, LinkSetting, Elapsed, ClockTime, Month, Weekday}
+use Rattle.net_types.specs.declared.rules.Subject.TheVariants.{NodeDepth, NodeHead, NodeInflow, LinkFlow}
+use Rattle.net_types.specs.declared.rules.Subject.TheVariants.{LinkSetting, Elapsed, ClockTime, Month, Weekday}
 use Rattle.net_types.specs.declared.rules.Test.{Test}
 use Rattle.net_types.specs.declared.tables.Curve.{Curve}
 use Rattle.net_types.specs.declared.tables.CurveKind.{CurveKind}
-use Rattle.net_types.specs.declared.tables.CurveKind.TheVariants.{Storage as StorageCurve, Pump1, Pump2, Pump3, Pump4, Tidal as TidalCurve}
-use Rattle.net_types.specs.Ranges.{OptionsInRange, GageInRange, SubInRange, NodeInRange, LinkInRange, CurveInRange, SeriesInRange, PatternInRange}
+use Rattle.net_types.specs.declared.tables.CurveKind.TheVariants.{Storage as StorageCurve, Pump1, Pump2}
+use Rattle.net_types.specs.declared.tables.CurveKind.TheVariants.{Pump3, Pump4, Tidal as TidalCurve}
+use Rattle.net_types.specs.Ranges.{OptionsInRange, GageInRange, SubInRange, NodeInRange}
+use Rattle.net_types.specs.Ranges.{LinkInRange, CurveInRange, SeriesInRange, PatternInRange}
 use Rattle.net_types.specs.Ranges.{InflowInRange, DryFlowInRange, RuleInRange, IsOfKind}
 use Rattle.net_types.specs.Records.{curve_at}
 
@@ -135,7 +138,9 @@ pub record HasFewRecords (project : Project) : Type 0 where
   pub rules : length project.rules ≤ RECORD_LIMIT
   pub points : sum_by (λ curve. length curve.points) project.curves ≤ 1_000_000
   pub entries : sum_by (λ series. length series.entries) project.series ≤ 1_000_000
-  pub tests : sum_by (λ rule. sum_by (λ group. length group) rule.groups + length rule.then_acts + length rule.else_acts) project.rules ≤ 1_000_000
+  pub tests :
+      sum_by (λ rule. sum_by (λ group. length group) rule.groups + length rule.then_acts + length rule.else_acts)
+      project.rules ≤ 1_000_000
 
 -- each record lies in its ranges
 pub record RecordsInRange (project : Project) : Type 0 where

@@ -44,8 +44,8 @@ pub struct SubAreas {
     pub zero6: i64,
 }
 
-/// The infiltration numbers of a subcatchment: rates in nm/h and volume in nm (0 to 10^10, a volume of 0 is none), decay
-/// 0 to 10^8 millionths per hour, drying time in ms (86,400 to 10^11), curve number 10^6 to 10^8 millionths.
+/// The infiltration numbers of a subcatchment: rates in nm/h and volume in nm (0 to 10^10, a volume of 0 is none),
+/// decay 0 to 10^8 millionths per hour, drying time in ms (86,400 to 10^11), curve number 10^6 to 10^8 millionths.
 #[derive(Clone, Copy, Debug, PartialEq, Eq)]
 pub enum Infil {
     Horton {

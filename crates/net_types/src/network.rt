@@ -82,7 +82,8 @@ pub enum LinkKind {
         cd6: i64,
         flap: bool,
     },
-    /// The crest's offset in µm, 0 to 10^9; the metric discharge coefficient 0 to 10^8 millionths; 0 to 2 end contractions.
+    /// The crest's offset in µm, 0 to 10^9; the metric discharge coefficient 0 to 10^8 millionths; 0 to 2 end
+    /// contractions.
     Weir {
         notch: bool,
         crest: i64,

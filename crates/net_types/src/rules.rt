@@ -21,8 +21,8 @@ pub struct Test {
     pub value: i64,
 }
 
-/// What a test looks at: depths and heads in µm, flows in cm³/s, settings in millionths, times in ms, the month from 1 and
-/// the weekday from 1 for Sunday. Nodes and links go by their numbers.
+/// What a test looks at: depths and heads in µm, flows in cm³/s, settings in millionths, times in ms, the month from 1
+/// and the weekday from 1 for Sunday. Nodes and links go by their numbers.
 #[derive(Clone, Copy, Debug, PartialEq, Eq)]
 pub enum Subject {
     NodeDepth(u32),

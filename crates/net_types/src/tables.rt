@@ -22,8 +22,8 @@ pub enum CurveKind {
     Tidal,
 }
 
-/// A time series: pairs of a time in ms from the start of the run (within 10^13) and a value in millionths of the user's
-/// unit (within 10^15), at least one, and the times rise.
+/// A time series: pairs of a time in ms from the start of the run (within 10^13) and a value in millionths of the
+/// user's unit (within 10^15), at least one, and the times rise.
 #[derive(Debug, Drop)]
 pub struct Series {
     pub name: Text,
@@ -32,8 +32,8 @@ pub struct Series {
     pub entries: List<(i64, i64)>,
 }
 
-/// A time pattern and its factors, 0 to 10^8 millionths: at most 12 of months, 7 of days and 24 of hours; those that are
-/// missing are 1.
+/// A time pattern and its factors, 0 to 10^8 millionths: at most 12 of months, 7 of days and 24 of hours; those that
+/// are missing are 1.
 #[derive(Debug, Drop)]
 pub struct Pattern {
     pub name: Text,

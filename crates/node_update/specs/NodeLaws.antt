@@ -21,7 +21,8 @@ use Rattle.xsect_tables.specs.SectionTable.{IsTable}
 use Rattle.node_update.specs.OutfallConduits.{conduit_to}
 use Rattle.node_update.specs.declared.node_law.NodeLaw.{NodeLaw as Law}
 use Rattle.node_update.specs.declared.node_law.NodeRule.{NodeRule as Rule}
-use Rattle.node_update.specs.declared.node_law.NodeRule.TheVariants.{Junction as JunctionRule, Outfall as OutfallRule, Storage as StorageRule}
+use Rattle.node_update.specs.declared.node_law.NodeRule.TheVariants.{Junction as JunctionRule, Outfall as OutfallRule}
+use Rattle.node_update.specs.declared.node_law.NodeRule.TheVariants.{Storage as StorageRule}
 use Rattle.node_update.specs.declared.node_law.OutfallConduit.{OutfallConduit}
 use Rattle.node_update.specs.declared.node_law.OutfallLevel.{OutfallLevel}
 use Rattle.node_update.specs.declared.node_law.OutfallLevel.TheVariants.{AtStage, AtInvert, FreeFall, UniformFlow}

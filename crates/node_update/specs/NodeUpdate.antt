@@ -1,6 +1,7 @@
 -- The next head of a node, its flood and its volume (Reference Manual volume II, chapter 3, in whole numbers by this
 -- project's profile).
-use Rattle.std.specs.Prelude.{◌*◌, ◌^◌, Bool, true, ◌&&◌, if◌then◌else◌, ℤ, pos, ◌+ℤ◌, ◌-ℤ◌, ◌*ℤ◌, int_le, int_lt, int_div}
+use Rattle.std.specs.Prelude.{◌*◌, ◌^◌, Bool, true, ◌&&◌, if◌then◌else◌, ℤ, pos}
+use Rattle.std.specs.Prelude.{◌+ℤ◌, ◌-ℤ◌, ◌*ℤ◌, int_le, int_lt, int_div}
 use Rattle.std.specs.Int.{int_max, int_min}
 use Rattle.std.specs.Int.RustNames.{unsigned_abs}
 use Rattle.fixed_num.specs.Ranges.{IsWithin, cut_of, IsFlow, IsStepLength, IsHead}
@@ -13,7 +14,8 @@ use Rattle.storage_shapes.specs.declared.table.StoreTable.{StoreTable}
 use Rattle.xsect_tables.specs.NormalFlow.{critical_of, normal_of}
 use Rattle.node_update.specs.declared.node_law.NodeLaw.{NodeLaw as Law}
 use Rattle.node_update.specs.declared.node_law.NodeRule.{NodeRule as Rule}
-use Rattle.node_update.specs.declared.node_law.NodeRule.TheVariants.{Junction as JunctionRule, Outfall as OutfallRule, Storage as StorageRule}
+use Rattle.node_update.specs.declared.node_law.NodeRule.TheVariants.{Junction as JunctionRule, Outfall as OutfallRule}
+use Rattle.node_update.specs.declared.node_law.NodeRule.TheVariants.{Storage as StorageRule}
 use Rattle.node_update.specs.declared.node_law.OutfallConduit.{OutfallConduit}
 use Rattle.node_update.specs.declared.node_law.OutfallLevel.{OutfallLevel}
 use Rattle.node_update.specs.declared.node_law.OutfallLevel.TheVariants.{AtStage, AtInvert, FreeFall, UniformFlow}
@@ -99,7 +101,8 @@ uniform_head_of conduit q = conduit.height +ℤ normal_depth_of conduit q
 abbrev pub level_head_of : OutfallLevel → (invert stage inflow outflow : ℤ) → ℤ
 level_head_of AtStage invert stage inflow outflow = int_max invert stage
 level_head_of AtInvert invert stage inflow outflow = invert
-level_head_of (FreeFall conduit) invert stage inflow outflow = free_head_of conduit (barrel_flow_of conduit inflow outflow)
+level_head_of (FreeFall conduit) invert stage inflow outflow =
+    free_head_of conduit (barrel_flow_of conduit inflow outflow)
 level_head_of (UniformFlow conduit) invert stage inflow outflow =
     uniform_head_of conduit (barrel_flow_of conduit inflow outflow)
 

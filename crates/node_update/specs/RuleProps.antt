@@ -3,7 +3,8 @@
 use Rattle.std.proofs.Props.{props}
 use Rattle.node_update.specs.NodeLaws.{IsNodeRule, IsOutfallLevel}
 use Rattle.node_update.specs.declared.node_law.NodeRule.{NodeRule as Rule}
-use Rattle.node_update.specs.declared.node_law.NodeRule.TheVariants.{Junction as JunctionRule, Outfall as OutfallRule, Storage as StorageRule}
+use Rattle.node_update.specs.declared.node_law.NodeRule.TheVariants.{Junction as JunctionRule, Outfall as OutfallRule}
+use Rattle.node_update.specs.declared.node_law.NodeRule.TheVariants.{Storage as StorageRule}
 use Rattle.node_update.specs.declared.node_law.OutfallLevel.{OutfallLevel}
 use Rattle.node_update.specs.declared.node_law.OutfallLevel.TheVariants.{AtStage, AtInvert, FreeFall, UniformFlow}
 

@@ -20,8 +20,9 @@ pub record IsLaw (law : Law) : Type 0 where
   pub limit_least : 1 ≤ law.limit
   pub limit_most : law.limit ≤ 10 ^ 15
   pub ends_in : (link : ℕ) → link < law.links → AreEnds law.nodes (law.ends link)
-  pub share_in : (link : ℕ) (fixed : LinkFixed) (first : Bool) (near far last : ℤ) → link < law.links → LinkFixedInRange fixed
-      → HeadInRange law near → HeadInRange law far → IsFlow last → ShareInRange (law.share link fixed first near far last)
+  pub share_in : (link : ℕ) (fixed : LinkFixed) (first : Bool) (near far last : ℤ) → link < law.links
+      → LinkFixedInRange fixed → HeadInRange law near → HeadInRange law far → IsFlow last
+      → ShareInRange (law.share link fixed first near far last)
   pub next_in : (node : ℕ) (fixed : NodeFixed) (first : Bool) (inflow outflow area last : ℤ) → node < law.nodes
       → NodeFixedInRange law fixed → SumsInRange inflow outflow area → HeadInRange law last
       → HeadInRange law (law.next node fixed first inflow outflow area last).head

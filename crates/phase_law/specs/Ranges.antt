@@ -17,7 +17,8 @@ pub record LinkFixedInRange (link : LinkFixed) : Type 0 where
   pub setting : IsPart link.setting
   pub length : IsStepLength link.dt
 
--- what stays the same for a node: old head, old net inflow within 3·10^16 cm³/s, lateral inflow, stage, length of the step
+-- what stays the same for a node: old head, old net inflow within 3·10^16 cm³/s, lateral inflow, stage, length of the
+-- step
 pub record NodeFixedInRange (law : Law) (node : NodeFixed) : Type 0 where
   pub head : HeadInRange law node.h_old
   pub net : IsWithin (3 * 10 ^ 16) node.net_old

@@ -1,11 +1,13 @@
 -- The core of the phase machine as plain data (this project's profile).
-use Rattle.std.specs.Prelude.{◌≡◌, ℕ, ◌+◌, ◌<◌, Bool, false, eqb, if◌then◌else◌, ℤ, pos, List, [], length, replicate, slice_index_or}
+use Rattle.std.specs.Prelude.{◌≡◌, ℕ, ◌+◌, ◌<◌, Bool, false, eqb, if◌then◌else◌, ℤ}
+use Rattle.std.specs.Prelude.{pos, List, [], length, replicate, slice_index_or}
 use Rattle.fixed_num.specs.Lists.{number}
 use Rattle.phase_law.specs.Law.{Law}
 use Rattle.trial_model.specs.declared.nets.Nets.{Nets}
 use Rattle.trial_model.specs.Fits.{link_fixed_at, node_fixed_at}
 use Rattle.phase_machine.specs.declared.work.Work.{Work}
-use Rattle.phase_machine.specs.Places.{done_place, unsettled_place, first_place, link_place, node_place, least_place, word_count, link_fixed_in, node_fixed_in}
+use Rattle.phase_machine.specs.Places.{done_place, unsettled_place, first_place, link_place, node_place}
+use Rattle.phase_machine.specs.Places.{least_place, word_count, link_fixed_in, node_fixed_in}
 
 -- the phase, whether it is open, how many items of it were given out, the words after word 0, what each seat does, how
 -- many words were reset since the last close, whether the machine was stopped, the words at the last opening of links,

@@ -1,5 +1,6 @@
 -- Words of proofs alone: what holds of every core that a list of events reaches.
-use Rattle.std.specs.Prelude.{◌≡◌, ℕ, ◌+◌, ◌-◌, ◌<◌, ◌≤◌, Bool, true, false, eqb, nat_lt, if◌then◌else◌, min, ◌⊎◌, ℤ, pos, ◌-ℤ◌, ◌≤ℤ◌, List, length}
+use Rattle.std.specs.Prelude.{◌≡◌, ℕ, ◌+◌, ◌-◌, ◌<◌, ◌≤◌, Bool, true, false, eqb, nat_lt}
+use Rattle.std.specs.Prelude.{if◌then◌else◌, min, ◌⊎◌, ℤ, pos, ◌-ℤ◌, ◌≤ℤ◌, List, length}
 use Rattle.std.specs.Int.RustNames.{unsigned_abs}
 use Rattle.fixed_num.specs.Lists.{number}
 use Rattle.fixed_num.specs.Sums.{below, at}
@@ -10,7 +11,9 @@ use Rattle.trial_model.specs.declared.nets.Nets.{Nets}
 use Rattle.trial_model.specs.Flow.{forward}
 use Rattle.trial_model.specs.Trial.{share_in, next_in, unsettled_part, with_flows, trial, unsettled_in}
 use Rattle.phase_machine.specs.declared.work.Work.{Work}
-use Rattle.phase_machine.specs.Places.{done_place, unsettled_place, first_place, link_place, node_place, least_place, word_count, is_odd, count, written, other, is_first, nets_in, IsRead, IsInRange}
+use Rattle.phase_machine.specs.Places.{done_place, unsettled_place, first_place, link_place}
+use Rattle.phase_machine.specs.Places.{node_place, least_place, word_count, is_odd, count}
+use Rattle.phase_machine.specs.Places.{written, other, is_first, nets_in, IsRead, IsInRange}
 use Rattle.phase_machine.specs.Core.{Core, seat_of, finished_in}
 use Rattle.phase_machine.specs.Items.{link_input, node_input, Deposit, leaving, reaching, covering}
 use Rattle.phase_machine.specs.Steps.{reset_count, reset_place, reset_value}

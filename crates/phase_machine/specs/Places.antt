@@ -4,7 +4,8 @@
 -- flow in buffer 0 and in buffer 1. Node n has the words from 4 + 6·links + 10·n on: its old head, old net inflow,
 -- lateral inflow, stage, length of the step, its head in buffer 0 and in buffer 1, and its inflow, outflow and area.
 -- The last word is the least travel time. (This project's profile.)
-use Rattle.std.specs.Prelude.{◌≡◌, ℕ, zero, suc, ◌+◌, ◌*◌, ◌-◌, ◌/◌, ◌%◌, ◌<◌, Bool, eqb, if◌then◌else◌, ℤ, pos, List, ◌^◌}
+use Rattle.std.specs.Prelude.{◌≡◌, ℕ, zero, suc, ◌+◌, ◌*◌, ◌-◌, ◌/◌, ◌%◌, ◌<◌}
+use Rattle.std.specs.Prelude.{Bool, eqb, if◌then◌else◌, ℤ, pos, List, ◌^◌}
 use Rattle.fixed_num.specs.Lists.{number, list_of}
 use Rattle.fixed_num.specs.Ranges.{IsBetween, IsWithin, IsFlow, IsPart, IsStepLength}
 use Rattle.phase_law.specs.Law.{Law}

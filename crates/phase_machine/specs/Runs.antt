@@ -6,7 +6,8 @@ use Rattle.phase_law.specs.Law.{Law}
 use Rattle.trial_model.specs.declared.nets.Nets.{Nets}
 use Rattle.trial_model.specs.Trial.{with_flows, trial, unsettled_in}
 use Rattle.phase_machine.specs.declared.acts.Event.{Event}
-use Rattle.phase_machine.specs.Places.{unsettled_place, first_place, least_place, is_odd, written, other, is_first, nets_in}
+use Rattle.phase_machine.specs.Places.{unsettled_place, first_place, least_place}
+use Rattle.phase_machine.specs.Places.{is_odd, written, other, is_first, nets_in}
 use Rattle.phase_machine.specs.Core.{Core, finished_in}
 use Rattle.phase_machine.specs.Steps.{Can, after}
 

@@ -1,15 +1,22 @@
 -- The steps of the phase machine: when an act has one, and what it does (this project's profile).
-use Rattle.std.specs.Prelude.{◌≡◌, ℕ, ◌+◌, ◌-◌, ◌*◌, ◌/◌, ◌%◌, ◌<◌, ◌≤◌, Bool, true, false, eqb, nat_lt, if◌then◌else◌, ℤ, pos, ◌+ℤ◌, List, [], ◌∷◌, ◌++◌, length, slice_set}
+use Rattle.std.specs.Prelude.{◌≡◌, ℕ, ◌+◌, ◌-◌, ◌*◌, ◌/◌, ◌%◌, ◌<◌, ◌≤◌, Bool, true, false, eqb, nat_lt}
+use Rattle.std.specs.Prelude.{if◌then◌else◌, ℤ, pos, ◌+ℤ◌, List, [], ◌∷◌, ◌++◌, length, slice_set}
 use Rattle.std.specs.Int.{int_min}
 use Rattle.fixed_num.specs.Lists.{number}
 use Rattle.phase_law.specs.Law.{Law}
 use Rattle.phase_machine.specs.declared.acts.Act.{Act}
-use Rattle.phase_machine.specs.declared.acts.Act.TheVariants.{Look, Claim, LoadInput, AddFirst, AddSecond, AddAreaFirst, AddAreaSecond, OfferTime, PutFlow, Done, LoadSums, PutHead, MarkUnsettled, LoadDone, Reset, SetFixed, OpenLinks, OpenNodes, Stop}
+use Rattle.phase_machine.specs.declared.acts.Act.TheVariants.{Look, Claim, LoadInput, AddFirst, AddSecond}
+use Rattle.phase_machine.specs.declared.acts.Act.TheVariants.{AddAreaFirst, AddAreaSecond, OfferTime, PutFlow}
+use Rattle.phase_machine.specs.declared.acts.Act.TheVariants.{Done, LoadSums, PutHead, MarkUnsettled, LoadDone}
+use Rattle.phase_machine.specs.declared.acts.Act.TheVariants.{Reset, SetFixed, OpenLinks, OpenNodes, Stop}
 use Rattle.phase_machine.specs.declared.acts.Event.{Event}
 use Rattle.phase_machine.specs.declared.work.Work.{Work}
-use Rattle.phase_machine.specs.Places.{done_place, unsettled_place, link_place, node_place, least_place, is_odd, count, written, IsRead, IsInRange, nets_in}
+use Rattle.phase_machine.specs.Places.{done_place, unsettled_place, link_place, node_place, least_place}
+use Rattle.phase_machine.specs.Places.{is_odd, count, written, IsRead, IsInRange, nets_in}
 use Rattle.phase_machine.specs.Core.{Core, seat_of, finished_in}
-use Rattle.phase_machine.specs.Items.{input_place, input_count, share_at, next_at, Deposit, leaving, reaching, covering, offer_stage, flow_stage, sums_stage, head_stage, mark_stage, last_stage}
+use Rattle.phase_machine.specs.Items.{input_place, input_count, share_at, next_at, Deposit, leaving, reaching}
+use Rattle.phase_machine.specs.Items.{covering, offer_stage, flow_stage, sums_stage, head_stage, mark_stage}
+use Rattle.phase_machine.specs.Items.{last_stage}
 
 -- ---- resets
 -- how many words are reset between phases: done, and after a node phase also unsettled, the three sums of each node and

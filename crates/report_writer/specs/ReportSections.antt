@@ -32,7 +32,8 @@ times_lines options = joined (
 
 -- the part of the least travel time that a step of variable length has; other runs have no such line
 abbrev pub part_line : FlowUnits → (part : ℤ) → List ℕ
-part_line units part = joined (codes "Variable Step " ∷ decimal_text part (unit_for units Coefficient) 6 ∷ codes "\n" ∷ [])
+part_line units part = joined (codes "Variable Step " ∷ decimal_text part (unit_for units Coefficient) 6
+    ∷ codes "\n" ∷ [])
 
 unfoldable pub variable_line : Options → List ℕ
 variable_line options = if int_eq options.variable6 (pos 0) then [] else part_line options.units options.variable6

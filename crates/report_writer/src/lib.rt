@@ -3,8 +3,8 @@
 //! front of it was put. No call takes memory.
 //!
 //! A refused input has one of the reports of `specs/FaultReports`, and an accepted one that is not run that of
-//! `specs/AcceptedReport`. The report of a run is its head and its tail, `head_of` and `tail_of` of `specs/RunReport`; with
-//! step lines (`specs/StepLines`) and all sections it ends with `whole_tail_of` of `specs/WholeTail`.
+//! `specs/AcceptedReport`. The report of a run is its head and its tail, `head_of` and `tail_of` of `specs/RunReport`;
+//! with step lines (`specs/StepLines`) and all sections it ends with `whole_tail_of` of `specs/WholeTail`.
 #![tactic(auto, using(fixed_num::proofs::Bounds::casts))]
 
 mod accepted;

@@ -16,8 +16,8 @@ use net_types::{Project, Sub};
 use runoff::SubStep;
 use summaries::SubSummary;
 
-/// Puts the section of subcatchments: for each the volumes of rain, infiltration and runoff in mm³ and the greatest flow
-/// with six places in the user's unit, in the order of the project (this project's profile).
+/// Puts the section of subcatchments: for each the volumes of rain, infiltration and runoff in mm³ and the greatest
+/// flow with six places in the user's unit, in the order of the project (this project's profile).
 pub fn put_subs<W: Sink>(
     to: &mut W,
     project: &Project,

@@ -15,8 +15,8 @@ pub fn put_steps_heading<W: Sink>(to: &mut W) -> Result<(), Failed>
     put_all(to, b"\nStep Continuity (mm3)\n")
 }
 
-/// Puts the step line of a moment (ms since the start) with the account since the line before, whose volumes at outfalls
-/// and of floods are within 10^37 mm³ (this project's profile).
+/// Puts the step line of a moment (ms since the start) with the account since the line before, whose volumes at
+/// outfalls and of floods are within 10^37 mm³ (this project's profile).
 pub fn put_step_line<W: Sink>(to: &mut W, moment: i64, account: &StepAccount) -> Result<(), Failed>
     requires { AreSmallLosses account.now }
     ensures bytes { Puts (W.held to.old) (W.held to.new) (step_line moment account.now) result }

@@ -10,8 +10,8 @@ use Rattle.runoff_states.specs.RunoffTimes.{runoff_at, steps_done}
 use Rattle.runoff_states.specs.declared.kept.Runoff.{Runoff}
 use Rattle.time_series.specs.LateralFlow.{lateral_at}
 
--- the lateral inflow of a node, in cm³/s: what its own inflows add, and what runs off to it of subcatchments by the last
--- step of runoff that is done, brought into 10^12 to either side
+-- the lateral inflow of a node, in cm³/s: what its own inflows add, and what runs off to it of subcatchments by the
+-- last step of runoff that is done, brought into 10^12 to either side
 unfoldable pub node_lateral : Project → (node : ℕ) (moment : ℤ) → ℤ
 node_lateral project node moment =
     cut_of (lateral_at project node moment +ℤ runoff_at project (start_state project) moment node)

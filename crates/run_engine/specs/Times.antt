@@ -22,8 +22,8 @@ shortest_of options =
     let share = (unsigned_abs (duration_of options) + 99_999_999) / 100_000_000 in
     int_min (int_max (pos (2 * share)) (pos 500)) options.step_ms
 
--- a part of the least travel time of a wave, in ms: rounded down to an even number and brought between the shortest step
--- and the routing step; that, or the routing step, is the length that a step is to have
+-- a part of the least travel time of a wave, in ms: rounded down to an even number and brought between the shortest
+-- step and the routing step; that, or the routing step, is the length that a step is to have
 unfoldable pub travel_part_of : Options → (least : ℤ) → ℤ
 travel_part_of options least =
     cut_of (pos (2 * (unsigned_abs (options.variable6 *ℤ least) / 2_000_000))) (shortest_of options) options.step_ms

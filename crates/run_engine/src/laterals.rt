@@ -12,8 +12,8 @@ use runoff_states::Runoff;
 use summaries::SubSums;
 use time_series::lateral_flows;
 
-// Makes all steps of runoff that are done at a moment, in ms since the start of the run, and adds them to the summaries:
-// those of an earlier moment are.
+// Makes all steps of runoff that are done at a moment, in ms since the start of the run, and adds them to the
+// summaries: those of an earlier moment are.
 pub(crate) fn advance_runoff(
     project: &Project,
     moment: i64,

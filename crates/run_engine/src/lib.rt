@@ -3,11 +3,11 @@
 //! The state sequence of a run is a recursion over the number of steps (`specs/States.antt`): a state is made
 //! ready with the length of the step and the lateral inflows and stages at its finish, and the successive trials of the
 //! step give the next one. A step has the length of the options, or a part of the time that a wave takes through the
-//! quickest conduit (`specs/Times.antt`). What a run comes to is said over the list of all its states (`specs/Results.antt`,
-//! `specs/Report.antt`). The code keeps one state, the one before it, and running totals.
+//! quickest conduit (`specs/Times.antt`). What a run comes to is said over the list of all its states
+//! (`specs/Results.antt`, `specs/Report.antt`). The code keeps one state, the one before it, and running totals.
 //!
-//! The contracts that matter: [`open_run`] gives a run at state 0, [`Run::advance_alone`] puts the head of the report, leaves
-//! the run at the last state (`IsAt` of `specs/Progress.antt`) and puts the step lines on the way
+//! The contracts that matter: [`open_run`] gives a run at state 0, [`Run::advance_alone`] puts the head of the report,
+//! leaves the run at the last state (`IsAt` of `specs/Progress.antt`) and puts the step lines on the way
 //! (`specs/StepLines.antt`), and [`Run::finish`] puts the figures: together `report_of` its project. What a run keeps
 //! between two steps, and so what always holds of a [`Run`], stands in `specs/Kept.antt`.
 #![tactic(auto, using(fixed_num::proofs::Bounds::casts))]

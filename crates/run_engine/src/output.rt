@@ -77,7 +77,8 @@ pub(crate) fn put_figures<W: Sink>(
     put_whole_tail(to, project, &figures)
 }
 
-// Whether some multiple of the report step is reached from one moment to another, both in ms since the start of the run.
+// Whether some multiple of the report step is reached from one moment to another, both in ms since the start of the
+// run.
 pub(crate) fn reaches_report(options: &Options, before: i64, after: i64) -> bool
     requires { IsBetween (pos 1_000) options.now.report_ms (pos 86_400_000) }
     ensures { result ≡ reaches_report options.now before after }

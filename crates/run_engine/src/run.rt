@@ -35,8 +35,8 @@ pub enum RunFault {
     OutOfMemory,
 }
 
-/// A run of a project: its state, the state before, what its steps and states came to so far, and the account of the steps
-/// since the last step line.
+/// A run of a project: its state, the state before, what its steps and states came to so far, and the account of the
+/// steps since the last step line.
 #[derive(Debug, Drop)]
 pub struct Run {
     project: Project,
@@ -115,8 +115,8 @@ pub fn open_run(alloc: Global, project: Project) -> Result<Run, OutOfMemory>
 impl Run {
     /// Puts the report's head, makes all steps by one worker, and puts the step lines. It takes no memory.
     ///
-    /// A state after the first has a step line where it is the first at or past some multiple of the report step, and the
-    /// last one has one in any case. The only fault is that the report could not be written.
+    /// A state after the first has a step line where it is the first at or past some multiple of the report step, and
+    /// the last one has one in any case. The only fault is that the report could not be written.
     /// Source: Reference Manual volume II, chapter 3; this project's profile.
     pub fn advance_alone<W: Sink>(&mut self, rpt: &mut W) -> Result<(), RunFault>
         requires { IsAt self.old 0 }

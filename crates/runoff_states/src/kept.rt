@@ -82,8 +82,8 @@ impl Runoff {
         self.begin += project.options.wet_ms;
     }
 
-    /// Adds to the lateral inflow of each node (cm³/s, within 10^12) what runs off to it at a moment (ms since the start
-    /// of the run) at which all steps are done that end by then, and brings the sum into 10^12 to either side.
+    /// Adds to the lateral inflow of each node (cm³/s, within 10^12) what runs off to it at a moment (ms since the
+    /// start of the run) at which all steps are done that end by then, and brings the sum into 10^12 to either side.
     ///
     /// Source: User's Manual, section [SUBCATCHMENTS]; this project's profile.
     pub fn add_to(&self, project: &Project, laterals: &mut [i128])

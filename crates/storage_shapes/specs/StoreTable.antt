@@ -1,5 +1,5 @@
--- The table of a storage: 201 grid depths, the areas at them and the volumes below them, and what is looked up in it (this
--- project's profile). Depths are µm, areas mm², volumes mm³.
+-- The table of a storage: 201 grid depths, the areas at them and the volumes below them, and what is looked up in it
+-- (this project's profile). Depths are µm, areas mm², volumes mm³.
 use Rattle.std.specs.Prelude.{◌≡◌, ℕ, ◌+◌, ◌*◌, ◌^◌, ◌≤◌, if◌then◌else◌, List, length, int_lt}
 use Rattle.std.specs.Prelude.{ℤ, pos, ◌+ℤ◌, ◌-ℤ◌, ◌*ℤ◌}
 use Rattle.fixed_num.specs.Lists.{list_of, number}
@@ -55,8 +55,8 @@ full_depth_of table = (pair_at table.areas 200).0
 abbrev pub full_area_of : StoreTable → ℤ
 full_area_of table = (pair_at table.areas 200).1
 
--- the area at a depth: on the line between the two grid depths around it; a depth below 0 counts as 0, and one above the full
--- depth as that
+-- the area at a depth: on the line between the two grid depths around it; a depth below 0 counts as 0, and one above
+-- the full depth as that
 unfoldable pub stored_area_of : StoreTable → (depth : ℤ) → ℤ
 stored_area_of table depth = held_value table.areas depth
 

@@ -54,8 +54,8 @@ impl StoreTable {
         held_reading(&self.areas, depth)
     }
 
-    /// The volume below a depth, in mm³. A depth in µm below 0 counts as 0, and above the full depth the storage goes on as a
-    /// prism.
+    /// The volume below a depth, in mm³. A depth in µm below 0 counts as 0, and above the full depth the storage goes
+    /// on as a prism.
     ///
     /// Source: this project's profile.
     pub fn volume(&self, depth: i64) -> i128

@@ -19,7 +19,8 @@ use Rattle.summaries.specs.declared.outfall_summary.OutfallSummary.{OutfallSumma
 unfoldable pub net_by : NodeFixed → (inflow outflow : ℤ) → ℤ
 net_by fixed inflow outflow = fixed.lateral +ℤ inflow -ℤ outflow
 
--- what came in over the step of so many ms that led to the state: half its length by the net inflows at its two ends (mm³)
+-- what came in over the step of so many ms that led to the state: half its length by the net inflows at its two ends
+-- (mm³)
 unfoldable pub volume_by : NodeFixed → (net ms : ℤ) → ℤ
 volume_by fixed net ms = int_div ms (pos 2) *ℤ (fixed.net_old +ℤ net)
 

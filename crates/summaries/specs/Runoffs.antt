@@ -1,5 +1,6 @@
 -- What the rain of a run became on each subcatchment (this project's profile).
-use Rattle.std.specs.Prelude.{◌≡◌, ℕ, zero, suc, ◌*◌, ◌^◌, ◌<◌, List, [], length, replicate, slice_index_or, ℤ, pos, ◌+ℤ◌}
+use Rattle.std.specs.Prelude.{◌≡◌, ℕ, zero, suc, ◌*◌, ◌^◌, ◌<◌, List, [], length}
+use Rattle.std.specs.Prelude.{replicate, slice_index_or, ℤ, pos, ◌+ℤ◌}
 use Rattle.std.specs.Prelude.{unsigned_abs, ◌≤ℤ◌}
 use Rattle.std.specs.Int.{int_max}
 use Rattle.fixed_num.specs.Ranges.{IsBetween, IsWithin}
@@ -23,8 +24,8 @@ abbrev pub most_below : (ℕ → ℤ) → ℕ → ℤ
 most_below f zero = pos 0
 most_below f (suc n) = int_max (most_below f n) (f n)
 
--- the summary of a subcatchment over so many steps, of which these are the volumes and the states after them: the sums of
--- the volumes, and the greatest flow
+-- the summary of a subcatchment over so many steps, of which these are the volumes and the states after them: the sums
+-- of the volumes, and the greatest flow
 unfoldable pub runoff_of : (steps : ℕ → List SubStep) (after : ℕ → List SubState) (count : ℕ) → ℕ → SubSummary
 runoff_of steps after count k = record {
   rain = sum_below (λ j. (volumes_at (steps j) k).rain) count;

@@ -1,5 +1,6 @@
 // The summaries of outfalls.
-ghost use Rattle.std.specs.Prelude.{◌≡◌, ℕ, ◌+◌, ◌*◌, ◌^◌, ◌<◌, ◌≤◌, length, map, IfOk, OnOk, if◌then◌else◌, [], ◌∷◌, ◌++◌, ℤ, pos};
+ghost use Rattle.std.specs.Prelude.{◌≡◌, ℕ, ◌+◌, ◌*◌, ◌^◌, ◌<◌, ◌≤◌, length, map, IfOk};
+ghost use Rattle.std.specs.Prelude.{OnOk, if◌then◌else◌, [], ◌∷◌, ◌++◌, ℤ, pos};
 ghost use Rattle.fixed_num.specs.Ranges.{IsBetween, IsFlow, IsWithin};
 ghost use Rattle.trial_model.specs.declared.nets.Nets.{Nets as State};
 ghost use Rattle.summaries.specs.Loads.{AreLoads, AreLoadsOf, HasNets, load_at, net_by, net_in, no_load, no_loads};
@@ -36,7 +37,8 @@ impl Model for OutfallSums {
 }
 
 impl OutfallSums {
-    /// The summaries of no state, for the outfalls of a project of at most 4,294,967,295 nodes, in the order of its nodes.
+    /// The summaries of no state, for the outfalls of a project of at most 4,294,967,295 nodes, in the order of its
+    /// nodes.
     ///
     /// The only error is want of memory.
     pub fn with_room(alloc: Global, project: &Project) -> Result<OutfallSums, OutOfMemory>

@@ -35,7 +35,8 @@ area_of law share n =
 -- a link's share, from the heads at its ends and its last flow
 abbrev pub share_of : Law → List LinkFixed → List ℤ → List ℤ → Bool → ℕ → Share
 share_of law links heads flows first l =
-    law.share l (link_fixed_at links l) first (number heads (law.ends l).0) (number heads (law.ends l).1) (number flows l)
+    law.share l (link_fixed_at links l) first (number heads (law.ends l).0) (number heads (law.ends l).1)
+    (number flows l)
 
 -- a node's next head, from what it gets of its links and its last head
 abbrev pub next_of : Law → List NodeFixed → Bool → List ℤ → List ℤ → List ℤ → List ℤ → ℕ → NodeNext

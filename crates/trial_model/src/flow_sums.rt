@@ -29,9 +29,11 @@ fn add_flow(
     requires inflows { HasRoom inflows.old (10 ^ 18) }
     requires outflows { HasRoom outflows.old (10 ^ 18) }
     ensures inflows { (n : ℕ) → number inflows.new n
-        ≡ number inflows.old n +ℤ pos (both_ends (near, far) (backward (number flows.now link)) (forward (number flows.now link)) n) }
+        ≡ number inflows.old n
+        +ℤ pos (both_ends (near, far) (backward (number flows.now link)) (forward (number flows.now link)) n) }
     ensures outflows { (n : ℕ) → number outflows.new n
-        ≡ number outflows.old n +ℤ pos (both_ends (near, far) (forward (number flows.now link)) (backward (number flows.now link)) n) }
+        ≡ number outflows.old n
+        +ℤ pos (both_ends (near, far) (forward (number flows.now link)) (backward (number flows.now link)) n) }
 {
     let (forward, backward) = split_flow(flows[link as usize]);
     add_pair(inflows, near, far, backward, forward);

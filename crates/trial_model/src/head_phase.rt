@@ -60,9 +60,11 @@ fn make_heads<P: PhaseLaw>(
     requires read_heads { HeadsFit (P.law law.now) read_heads.now }
     requires heads { length heads.old ≡ (P.law law.now).nodes }
     ensures heads { let l = P.law law.now in
-        heads.new ≡ list_of (λ n. (next_of l nodes.now first inflows.now outflows.now areas.now read_heads.now n).head) l.nodes }
+        heads.new
+        ≡ list_of (λ n. (next_of l nodes.now first inflows.now outflows.now areas.now read_heads.now n).head) l.nodes }
     ensures count { let l = P.law law.now in
-        result ≡ below (λ n. unsettled_part (next_of l nodes.now first inflows.now outflows.now areas.now read_heads.now n).settled) l.nodes }
+        result ≡ below (λ n. unsettled_part
+        (next_of l nodes.now first inflows.now outflows.now areas.now read_heads.now n).settled) l.nodes }
 {
     let mut unsettled = 0;
     for node in 0..law.nodes() {

@@ -72,9 +72,11 @@ fn make_flows<P: PhaseLaw>(
     ensures flows { let l = P.law law.now in
         flows.new ≡ list_of (λ k. (share_of l links.now heads.now flows.old first k).q) l.links }
     ensures inflows { let l = P.law law.now in
-        inflows.new ≡ list_of (λ n. pos (inflow_of l (λ k. (share_of l links.now heads.now flows.old first k).q) n)) l.nodes }
+        inflows.new
+        ≡ list_of (λ n. pos (inflow_of l (λ k. (share_of l links.now heads.now flows.old first k).q) n)) l.nodes }
     ensures outflows { let l = P.law law.now in
-        outflows.new ≡ list_of (λ n. pos (outflow_of l (λ k. (share_of l links.now heads.now flows.old first k).q) n)) l.nodes }
+        outflows.new
+        ≡ list_of (λ n. pos (outflow_of l (λ k. (share_of l links.now heads.now flows.old first k).q) n)) l.nodes }
     ensures areas { let l = P.law law.now in
         areas.new ≡ list_of (λ n. pos (area_of l (share_of l links.now heads.now flows.old first) n)) l.nodes }
     ensures least { let l = P.law law.now in

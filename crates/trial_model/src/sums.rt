@@ -64,7 +64,8 @@ pub(crate) fn add_share(
     requires outflows { HasRoom outflows.old (10 ^ 18) }
     requires areas { HasRoom areas.old (10 ^ 18) }
     ensures inflows { (n : ℕ) → number inflows.new n ≡ number inflows.old n +ℤ pos (in_part (near, far) share.now n) }
-    ensures outflows { (n : ℕ) → number outflows.new n ≡ number outflows.old n +ℤ pos (out_part (near, far) share.now n) }
+    ensures outflows { (n : ℕ)
+        → number outflows.new n ≡ number outflows.old n +ℤ pos (out_part (near, far) share.now n) }
     ensures areas { (n : ℕ) → number areas.new n ≡ number areas.old n +ℤ pos (area_part (near, far) share.now n) }
 {
     let (forward, backward) = split_flow(share.q);

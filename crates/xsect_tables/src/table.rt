@@ -36,9 +36,23 @@ impl Model for Table {
 
     ghost Value = { SectionTable };
 
-    ghost view = { λ t. record { heights = t.heights; areas = t.areas; widths = t.widths; perimeters = t.perimeters; barrels = t.barrels; closed = t.closed } };
+    ghost view = { λ t. record {
+      heights = t.heights;
+      areas = t.areas;
+      widths = t.widths;
+      perimeters = t.perimeters;
+      barrels = t.barrels;
+      closed = t.closed;
+    } };
 
-    ghost invariant = { λ t. IsStored (record { heights = t.heights; areas = t.areas; widths = t.widths; perimeters = t.perimeters; barrels = t.barrels; closed = t.closed }) t.slot };
+    ghost invariant = { λ t. IsStored (record {
+      heights = t.heights;
+      areas = t.areas;
+      widths = t.widths;
+      perimeters = t.perimeters;
+      barrels = t.barrels;
+      closed = t.closed;
+    }) t.slot };
 }
 
 impl Table {
