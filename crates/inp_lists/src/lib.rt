@@ -11,5 +11,5 @@ mod chain;
 mod held;
 mod walk;
 
-pub use chain::{Chain, fault, text_at};
+pub use chain::{Chain, text_at};
 pub use walk::{Chained, read_chain};
