@@ -4,6 +4,7 @@ use Rattle.std.specs.Prelude.{nat_lt, List, [], ◌∷◌, ◌++◌}
 use Rattle.std.specs.Prelude.{map, filter, sum, bytes_eq, Option, Some, None}
 use Rattle.net_types.specs.declared.faults.FaultKind.{FaultKind}
 use Rattle.net_types.specs.declared.faults.FaultKind.TheVariants.{TooFewItems, OverLimit}
+use Rattle.net_types.specs.Faults.{number_of}
 use Rattle.inp_lines.specs.declared.fault.Fault.{Fault}
 use Rattle.inp_lines.specs.declared.line.Line.{Line}
 use Rattle.inp_lines.specs.declared.names.Naming.{Naming}

@@ -1,4 +1,5 @@
 pub mod ListLemmas
+pub mod SharedLemmas
 pub mod BuildLemmas
 pub mod ValueLemmas
 pub mod OpenAreaLemmas

@@ -1,5 +1,5 @@
 -- The area of the opening of an orifice is at most that of its full section.
-use Rattle.std.proofs.Common.{◌≡◌, ℕ, ◌*◌, ◌^◌, ◌≤◌, Bool, true, false, cond, ◌&&◌, ℤ, pos, negsuc, ◌*ℤ◌, ◌≤ℤ◌, int_lt, refl, subst, arith}
+use Rattle.std.proofs.Common.{◌≡◌, ℕ, ◌^◌, ◌≤◌, Bool, true, false, cond, ◌&&◌, ℤ, pos, negsuc, ◌*ℤ◌, ◌≤ℤ◌, int_lt, refl, subst, arith}
 use Rattle.std.specs.Int.{int_min}
 use Rattle.std.proofs.Math.Nat.{mul-le-mul_left}
 use Rattle.std.proofs.lemmas.Int.{ints, clamps}
@@ -11,8 +11,8 @@ use Rattle.orifice_weir.specs.Heads.{part_of, upper_of}
 use Rattle.orifice_weir.specs.OrificeFlow.{IsOrifice, opening_of, orifice_depth_of}
 use Rattle.orifice_weir.specs.declared.orifice.OrificeData.{OrificeData}
 use Rattle.xsect_tables.proofs.LookUpLemmas.{row_at-between}
-use Rattle.xsect_tables.specs.LookUps.{area_of, is_in_slot, row_at, slot_area}
-use Rattle.xsect_tables.specs.SectionTable.{SectionTable, full_area, full_height}
+use Rattle.xsect_tables.specs.LookUps.{area_of}
+use Rattle.xsect_tables.specs.SectionTable.{SectionTable, full_height}
 use Rattle.link_eval.specs.Orifices.{IsOrificeLaw, open_area_of}
 use Rattle.link_eval.specs.declared.orifice.OrificeLaw.{OrificeLaw}
 
@@ -57,7 +57,7 @@ area-most {table} {y} t h =
     let row = row_at-between y t.rows.heights t.areas in
     rw (no_slot table.closed (full_height table) y h) (record { from = row.from; to = omega (arith, ints, row.to, t.full.to) })
 
-pub open_area-between : (law : OrificeLaw) {setting : ℤ} (near far : ℤ) → IsOrificeLaw law → IsPart setting → IsBetween (pos 0) (open_area_of law setting near far) (pos (10 ^ 11))
+pub open_area-between : (law : OrificeLaw SectionTable) {setting : ℤ} (near far : ℤ) → IsOrificeLaw law → IsPart setting → IsBetween (pos 0) (open_area_of law setting near far) (pos (10 ^ 11))
 unfolding open_area_of
 open_area-between law {setting} near far l s =
     area-most l.table

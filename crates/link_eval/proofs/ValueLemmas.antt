@@ -13,6 +13,7 @@ use Rattle.phase_law.specs.declared.values.NodeFixed.{NodeFixed}
 use Rattle.link_eval.specs.Good.{IsGood}
 use Rattle.link_eval.specs.Hydraulics.{Hydraulics, node_law_at, link_law_at, mid_area_at, law_of, rule_mid_area, rule_volume}
 use Rattle.link_eval.specs.LinkLaws.{IsLinkRule}
+use Rattle.xsect_tables.specs.SectionTable.{SectionTable}
 use Rattle.link_eval.specs.declared.link_law.LinkRule.{LinkRule}
 use Rattle.link_eval.specs.declared.link_law.LinkRule.TheVariants.{Conduit as ConduitRule, Pump as PumpRule}
 use Rattle.link_eval.specs.declared.link_law.LinkRule.TheVariants.{Orifice as OrificeRule, Weir as WeirRule}
@@ -22,13 +23,13 @@ use Rattle.link_eval.specs.LawGood.{head_in, fixed_in}
 none-between : (m : ℕ) → IsBetween (pos 0) (pos 0) (pos m)
 none-between m = record { from = omega (arith, ints); to = omega (arith, ints) }
 
-pub rule_mid_area-between : (rule : LinkRule) {near far : ℤ} → IsLinkRule rule → IsHead near → IsHead far → IsBetween (pos 0) (rule_mid_area rule near far) (pos (5 * 10 ^ 11))
+pub rule_mid_area-between : (rule : LinkRule SectionTable) {near far : ℤ} → IsLinkRule rule → IsHead near → IsHead far → IsBetween (pos 0) (rule_mid_area rule near far) (pos (5 * 10 ^ 11))
 rule_mid_area-between (ConduitRule law) r n f = mid_area_of-between r.conduit r.table n f
 rule_mid_area-between (PumpRule law) r n f = none-between (5 * 10 ^ 11)
 rule_mid_area-between (OrificeRule law) r n f = none-between (5 * 10 ^ 11)
 rule_mid_area-between (WeirRule law) r n f = none-between (5 * 10 ^ 11)
 
-pub rule_volume-between : (rule : LinkRule) {near far : ℤ} → IsLinkRule rule → IsHead near → IsHead far → IsBetween (pos 0) (rule_volume rule near far) (pos (10 ^ 22))
+pub rule_volume-between : (rule : LinkRule SectionTable) {near far : ℤ} → IsLinkRule rule → IsHead near → IsHead far → IsBetween (pos 0) (rule_volume rule near far) (pos (10 ^ 22))
 rule_volume-between (ConduitRule law) r n f = volume_of-between r.conduit r.table n f
 rule_volume-between (PumpRule law) r n f = none-between (10 ^ 22)
 rule_volume-between (OrificeRule law) r n f = none-between (10 ^ 22)

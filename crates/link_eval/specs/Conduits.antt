@@ -4,11 +4,10 @@ use Rattle.conduit_flow.specs.Conduits.{IsConduit, IsConduitTable}
 use Rattle.conduit_flow.specs.declared.conduit.ConduitData.{ConduitData}
 use Rattle.net_types.specs.declared.network.LinkKind.{LinkKind}
 use Rattle.net_types.specs.declared.network.LinkKind.TheVariants.{Conduit, Pump, Orifice, Weir}
-use Rattle.net_types.specs.declared.network.Section.{Section}
 use Rattle.net_types.specs.declared.options.Damping.TheVariants.{Full}
 use Rattle.net_types.specs.declared.options.Limiter.TheVariants.{Both}
 use Rattle.net_types.specs.declared.options.Options.{Options}
-use Rattle.xsect_tables.specs.SectionTable.{table_of}
+use Rattle.xsect_tables.specs.SectionTable.{SectionTable}
 use Rattle.link_eval.specs.declared.conduit.ConduitLaw.{ConduitLaw}
 use Rattle.link_eval.specs.declared.ends.LinkEnds.{LinkEnds}
 
@@ -48,12 +47,11 @@ conduit_of (Pump curve on startup shutoff) ends options = no_conduit
 conduit_of (Orifice bottom offset cd6 flap) ends options = no_conduit
 conduit_of (Weir notch crest cd6 flap contractions) ends options = no_conduit
 
--- the conduit and the table of its section
-abbrev pub conduit_law_of : LinkKind → Section → LinkEnds → Options → ConduitLaw
-conduit_law_of kind section ends options =
-    record { conduit = conduit_of kind ends options; table = table_of section }
+-- the conduit and its table
+abbrev pub conduit_law_of : {T : Type 0} → LinkKind → (table : T) → LinkEnds → Options → ConduitLaw T
+conduit_law_of kind table ends options = record { conduit = conduit_of kind ends options; table = table }
 
 -- a conduit and a table that can be routed
-pub record IsConduitLaw (law : ConduitLaw) : Type 0 where
+pub record IsConduitLaw (law : ConduitLaw SectionTable) : Type 0 where
   pub conduit : IsConduit law.conduit
   pub table : IsConduitTable law.table

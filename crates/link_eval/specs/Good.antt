@@ -5,11 +5,12 @@ use Rattle.fixed_num.specs.declared.constants.TheConstants.{RECORD_LIMIT}
 use Rattle.net_types.specs.Ranges.{CurveInRange}
 use Rattle.node_update.specs.NodeLaws.{IsNodeLaw}
 use Rattle.phase_law.specs.Laws.{AreEnds}
+use Rattle.xsect_tables.specs.SectionTable.{SectionTable}
 use Rattle.link_eval.specs.Hydraulics.{Hydraulics, LinkLaw, node_law_at, link_law_at}
 use Rattle.link_eval.specs.LinkLaws.{IsLinkRule, NamesOneOf}
 
 -- a link between two different nodes of so many, whose rule is in its ranges and whose curve is one of so many
-pub record IsGoodLink (nodes curves : ℕ) (link : LinkLaw) : Type 0 where
+pub record IsGoodLink (nodes curves : ℕ) (link : LinkLaw SectionTable) : Type 0 where
   pub ends : AreEnds nodes (link.first, link.second)
   pub rule : IsLinkRule link.rule
   pub curve : NamesOneOf curves link.rule

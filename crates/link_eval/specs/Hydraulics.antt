@@ -18,6 +18,7 @@ use Rattle.link_eval.specs.LinkLaws.{no_link_law, link_law_of}
 use Rattle.link_eval.specs.Orifices.{orifice_share_of}
 use Rattle.link_eval.specs.Pumps.{pump_share_of}
 use Rattle.link_eval.specs.Weirs.{weir_share_of}
+use Rattle.xsect_tables.specs.SectionTable.{SectionTable}
 use Rattle.link_eval.specs.declared.link_law.LinkRule.{LinkRule}
 use Rattle.link_eval.specs.declared.link_law.LinkRule.TheVariants.{Conduit as ConduitRule, Pump as PumpRule}
 use Rattle.link_eval.specs.declared.link_law.LinkRule.TheVariants.{Orifice as OrificeRule, Weir as WeirRule}
@@ -47,18 +48,18 @@ no_node_law = record {
 unfoldable pub node_law_at : Hydraulics → ℕ → NodeLaw
 node_law_at h n = slice_index_or h.nodes n no_node_law
 
-unfoldable pub link_law_at : Hydraulics → ℕ → LinkLaw
+unfoldable pub link_law_at : Hydraulics → ℕ → LinkLaw SectionTable
 link_law_at h l = slice_index_or h.links l no_link_law
 
 -- ---- a link at the heads of its ends
 -- the volume of water in a link, in mm³, and the area of flow in its middle, in mm²; only a conduit has them
-abbrev pub rule_volume : LinkRule → (near far : ℤ) → ℤ
+abbrev pub rule_volume : LinkRule SectionTable → (near far : ℤ) → ℤ
 rule_volume (ConduitRule law) near far = volume_of law.conduit law.table near far
 rule_volume (PumpRule law) near far = pos 0
 rule_volume (OrificeRule law) near far = pos 0
 rule_volume (WeirRule law) near far = pos 0
 
-abbrev pub rule_mid_area : LinkRule → (near far : ℤ) → ℤ
+abbrev pub rule_mid_area : LinkRule SectionTable → (near far : ℤ) → ℤ
 rule_mid_area (ConduitRule law) near far = mid_area_of law.conduit law.table near far
 rule_mid_area (PumpRule law) near far = pos 0
 rule_mid_area (OrificeRule law) near far = pos 0
@@ -72,7 +73,8 @@ mid_area_at h l near far = rule_mid_area (link_law_at h l).rule near far
 
 -- ---- a link in a trial
 -- the share of a link by its rule; a pump draws from this node, whose volume counts
-abbrev pub rule_share : Hydraulics → LinkRule → (node : ℕ) → LinkFixed → (first : Bool) → (near far last : ℤ) → Share
+abbrev pub rule_share : Hydraulics → LinkRule SectionTable → (node : ℕ) → LinkFixed → (first : Bool)
+    → (near far last : ℤ) → Share
 rule_share h (ConduitRule law) node fixed first near far last =
     share_of law.conduit law.table fixed first near far last
 rule_share h (PumpRule law) node fixed first near far last =
@@ -81,7 +83,7 @@ rule_share h (PumpRule law) node fixed first near far last =
 rule_share h (OrificeRule law) node fixed first near far last = orifice_share_of law fixed first near far last
 rule_share h (WeirRule law) node fixed first near far last = weir_share_of law fixed first near far last
 
-abbrev pub link_share_of : Hydraulics → LinkLaw → LinkFixed → (first : Bool) → (near far last : ℤ) → Share
+abbrev pub link_share_of : Hydraulics → LinkLaw SectionTable → LinkFixed → (first : Bool) → (near far last : ℤ) → Share
 link_share_of h link fixed first near far last = rule_share h link.rule link.first fixed first near far last
 
 -- ---- the whole

@@ -1,6 +1,6 @@
 -- The law of good hydraulics answers in range wherever it is asked in range: proofs, which stand here since the ghost
 -- law of a type may cite no other file of its crate.
-use Rattle.std.proofs.Common.{ℕ, ◌*◌, ◌/◌, ◌^◌, Bool, true, false, cond, ℤ, pos, negsuc, ◌*ℤ◌, ◌≤ℤ◌, neg_ℤ, arith}
+use Rattle.std.proofs.Common.{ℕ, ◌/◌, ◌^◌, Bool, true, false, cond, ℤ, pos, negsuc, ◌*ℤ◌, ◌≤ℤ◌, neg_ℤ, arith}
 use Rattle.std.specs.Int.{int_min}
 use Rattle.std.specs.Ordering.{int_eq}
 use Rattle.std.proofs.Math.Nat.{mul-div-le}
@@ -102,7 +102,7 @@ share-in_range {conduit} {table} fixed first near far last c t =
     (wet_share-in_range fixed first near far last c t))
 
 -- ---- the share of a link
-rule_share-in_range : (h : Hydraulics) (rule : LinkRule) (node : ℕ) (fixed : LinkFixed) (first : Bool)
+rule_share-in_range : (h : Hydraulics) (rule : LinkRule SectionTable) (node : ℕ) (fixed : LinkFixed) (first : Bool)
     (near far last : ℤ) → IsLinkRule rule
     → ShareInRange (rule_share h rule node fixed first near far last)
 unfolding pump_share_of orifice_share_of weir_share_of

@@ -4,6 +4,8 @@ pub mod Pumps
 pub mod Orifices
 pub mod Weirs
 pub mod LinkLaws
+pub mod SharedTables
+pub mod Stock
 pub mod Hydraulics
 pub mod Routed
 pub mod Good

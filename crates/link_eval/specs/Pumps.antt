@@ -1,6 +1,6 @@
 -- The law of a pump, and what it gives in a trial (User's Manual, sections [PUMPS] and [CURVES]; Reference Manual
 -- volume II, chapter 6).
-use Rattle.std.specs.Prelude.{ℕ, ◌<◌, Bool, false, ℤ, ◌-ℤ◌}
+use Rattle.std.specs.Prelude.{ℕ, Bool, false, ℤ, ◌-ℤ◌}
 use Rattle.fixed_num.specs.Ranges.{IsElevation}
 use Rattle.inp_values.specs.Units.{unit_for}
 use Rattle.inp_values.specs.declared.quantities.Quantity.TheVariants.{Depth, Flow, Volume}

@@ -3,18 +3,19 @@
 use Rattle.std.specs.Prelude.{ℕ}
 use Rattle.std.proofs.Props.{props}
 use Rattle.node_update.specs.RuleProps.{node_rule_prop}
+use Rattle.xsect_tables.specs.SectionTable.{SectionTable}
 use Rattle.link_eval.specs.LinkLaws.{IsLinkRule, NamesOneOf}
 use Rattle.link_eval.specs.declared.link_law.LinkRule.{LinkRule}
 use Rattle.link_eval.specs.declared.link_law.LinkRule.TheVariants.{Conduit as ConduitRule, Pump as PumpRule}
 use Rattle.link_eval.specs.declared.link_law.LinkRule.TheVariants.{Orifice as OrificeRule, Weir as WeirRule}
 
-pub link_rule_prop : (rule : LinkRule) → IsProp (IsLinkRule rule)
+pub link_rule_prop : (rule : LinkRule SectionTable) → IsProp (IsLinkRule rule)
 link_rule_prop (ConduitRule law) = hlevel props
 link_rule_prop (PumpRule law) = hlevel props
 link_rule_prop (OrificeRule law) = hlevel props
 link_rule_prop (WeirRule law) = hlevel props
 
-pub names_prop : (curves : ℕ) (rule : LinkRule) → IsProp (NamesOneOf curves rule)
+pub names_prop : (curves : ℕ) (rule : LinkRule SectionTable) → IsProp (NamesOneOf curves rule)
 names_prop curves (ConduitRule law) = hlevel props
 names_prop curves (PumpRule law) = hlevel props
 names_prop curves (OrificeRule law) = hlevel props

@@ -1,40 +1,38 @@
 // The law of a conduit.
 ghost use Rattle.std.specs.Prelude.{◌≡◌};
 ghost use Rattle.conduit_flow.specs.Conduits.{IsConduit};
-ghost use Rattle.link_eval.specs.Conduits.{IsConduitLaw, conduit_law_of, conduit_of};
+ghost use Rattle.link_eval.specs.Conduits.{conduit_law_of, conduit_of};
 ghost use Rattle.link_eval.specs.Ends.{AreLinkEnds};
-ghost use Rattle.link_eval.specs.Routed.{IsConduitKind, IsRoutedSection};
+ghost use Rattle.link_eval.specs.Routed.{IsConduitKind};
 ghost use Rattle.net_types.specs.Ranges.{LinkKindInRange};
 
 use crate::ends::{LinkEnds, is_barred};
 use conduit_flow::ConduitData;
-use net_types::{LinkKind, Options, Section};
-use xsect_tables::Table;
+use net_types::{LinkKind, Options};
 
-/// What the share of a conduit depends on: its lengths and coefficients, and the table of its section.
+/// What the share of a conduit depends on: its lengths and coefficients, and the table of its section or its number.
 #[derive(Debug, Drop)]
-pub struct ConduitLaw {
+pub struct ConduitLaw<T> {
     pub conduit: ConduitData,
-    pub table: Table,
+    pub table: T,
 }
 
-// The law of a conduit with this section.
+// The law of a conduit whose table has this number.
 pub(crate) fn conduit_law(
     kind: &LinkKind,
-    section: &Section,
+    table: usize,
     ends: &LinkEnds,
     options: &Options,
-) -> ConduitLaw
+) -> ConduitLaw<usize>
     requires kind { LinkKindInRange kind.now }
     requires built { IsConduitKind kind.now }
-    requires given { IsRoutedSection section.now }
     requires ends { AreLinkEnds ends.now }
-    ensures value { result ≡ conduit_law_of kind.now section.now ends.now options.now }
-    ensures good { IsConduitLaw result }
+    ensures value { result ≡ conduit_law_of kind.now table ends.now options.now }
+    ensures good { IsConduit result.conduit }
 {
     ConduitLaw {
         conduit: conduit(kind, ends, options),
-        table: Table::build(section),
+        table,
     }
 }
 

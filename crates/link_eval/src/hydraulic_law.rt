@@ -2,15 +2,14 @@
 ghost use Rattle.std.specs.Prelude.{◌≡◌, ◌*◌, ◌^◌, ◌<◌, length, pos, IfOk};
 ghost use Rattle.fixed_num.specs.Ranges.{IsBetween, IsHead};
 ghost use Rattle.project_check.specs.Faultless.{IsFaultless};
-ghost use Rattle.link_eval.specs.Good.{IsGood, IsGoodLink};
+ghost use Rattle.link_eval.specs.Good.{IsGood};
 ghost use Rattle.node_update.specs.NodeLaws.{IsNodeLaw};
 ghost use Rattle.link_eval.specs.RuleProps.{rule_props};
-ghost use Rattle.link_eval.specs.Hydraulics.{hydraulics_of, node_law_at, link_law_at, volume_at, mid_area_at};
+ghost use Rattle.link_eval.specs.Hydraulics.{hydraulics_of, node_law_at, volume_at, mid_area_at};
 
 use crate::build::link_laws;
 use crate::curves::copy_curves;
 use crate::hydraulics::Hydraulics;
-use crate::link_law::LinkLaw;
 use net_types::{OutOfMemory, Project};
 use node_update::{NodeLaw, node_laws};
 use std::alloc::Global;
@@ -59,7 +58,9 @@ impl HydraulicLaw {
         ensures value { result ≡ volume_at self.now.hydraulics link near far }
         ensures range { IsBetween (pos 0) result (pos (10 ^ 22)) }
     {
-        self.link(link).rule.volume(near, far)
+        let links = &self.hydraulics.links;
+        let law = &links.laws.as_slice()[link as usize];
+        law.rule.volume(links.tables.as_slice(), near, far)
     }
 
     /// The area of flow in the middle of a link, in mm², from the heads at its ends in µm. Only a conduit has one.
@@ -70,16 +71,8 @@ impl HydraulicLaw {
         ensures value { result ≡ mid_area_at self.now.hydraulics link near far }
         ensures range { IsBetween (pos 0) result (pos (5 * 10 ^ 11)) }
     {
-        self.link(link).rule.mid_area(near, far)
-    }
-
-    // The law of a link, by its number.
-    pub(crate) fn link(&self, link: u32) -> &LinkLaw
-        requires { link < length self.now.hydraulics.links }
-        ensures value { result.now ≡ link_law_at self.now.hydraulics link }
-        ensures good { IsGoodLink
-            (length self.now.hydraulics.nodes) (length self.now.hydraulics.curves) result.now }
-    {
-        &self.hydraulics.links.as_slice()[link as usize]
+        let links = &self.hydraulics.links;
+        let law = &links.laws.as_slice()[link as usize];
+        law.rule.mid_area(links.tables.as_slice(), near, far)
     }
 }

@@ -2,9 +2,9 @@
 ghost use Rattle.std.specs.Prelude.{◌≡◌, ◌^◌, pos};
 ghost use Rattle.fixed_num.specs.Ranges.{IsBetween, IsFlow, IsHead, IsPart};
 ghost use Rattle.link_eval.specs.Ends.{AreLinkEnds};
-ghost use Rattle.link_eval.specs.Orifices.{IsOrificeLaw, open_area_of, orifice_law_of, orifice_share_of};
-ghost use Rattle.link_eval.specs.Routed.{IsRoutedSection};
-ghost use Rattle.net_types.specs.Ranges.{OrificeInRange};
+ghost use Rattle.link_eval.specs.Orifices.{IsOrificeLaw, open_area_of, orifice_law_of, orifice_share_of, orifice_with};
+ghost use Rattle.net_types.specs.Ranges.{OrificeInRange, SectionInRange};
+ghost use Rattle.orifice_weir.specs.OrificeFlow.{IsOrifice};
 ghost use Rattle.phase_law.specs.Ranges.{LinkFixedInRange};
 
 use crate::ends::LinkEnds;
@@ -14,28 +14,29 @@ use phase_law::{LinkFixed, Share};
 use short_links::{ShortLink, short_share};
 use xsect_tables::Table;
 
-/// What the share of an orifice depends on: what bars it, its opening and the table of its section.
+/// What the share of an orifice depends on: what bars it, its opening, and the table of its section or its number.
 #[derive(Debug, Drop)]
-pub struct OrificeLaw {
+pub struct OrificeLaw<T> {
     pub ends: ShortLink,
     pub orifice: OrificeData,
-    pub table: Table,
+    pub table: T,
 }
 
-// The law of an orifice with this section.
+// The law of an orifice with this section, whose table has this number.
 pub(crate) fn orifice_law(
     bottom: bool,
     offset: i64,
     cd6: i64,
     flap: bool,
     section: &Section,
+    table: usize,
     ends: &LinkEnds,
-) -> OrificeLaw
+) -> OrificeLaw<usize>
     requires range { OrificeInRange offset cd6 }
-    requires given { IsRoutedSection section.now }
+    requires given { SectionInRange section.now }
     requires ends { AreLinkEnds ends.now }
-    ensures value { result ≡ orifice_law_of bottom offset cd6 flap section.now ends.now }
-    ensures good { IsOrificeLaw result }
+    ensures value { result ≡ orifice_law_of bottom offset cd6 flap section.now table ends.now }
+    ensures good { IsOrifice result.orifice }
 {
     OrificeLaw {
         ends: ends.short_link(flap),
@@ -45,40 +46,41 @@ pub(crate) fn orifice_law(
             full: section.full,
             cd6,
         },
-        table: Table::build(section),
+        table,
     }
 }
 
 // The area of its opening up to the depth to which it is filled, in mm².
-fn open_area(law: &OrificeLaw, setting: i64, near: i64, far: i64) -> i64
-    requires law { IsOrificeLaw law.now }
+fn open_area(law: &OrificeLaw<usize>, table: &Table, setting: i64, near: i64, far: i64) -> i64
+    requires law { IsOrificeLaw (orifice_with table.now law.now) }
     requires setting { IsPart setting }
     requires near { IsHead near }
     requires far { IsHead far }
-    ensures value { result ≡ open_area_of law.now setting near far }
+    ensures value { result ≡ open_area_of (orifice_with table.now law.now) setting near far }
     ensures range { IsBetween (pos 0) result (pos (10 ^ 11)) }
 {
     let depth = orifice_depth(&law.orifice, setting, near, far);
-    law.table.area(depth)
+    table.area(depth)
 }
 
-// The share of an orifice in a trial.
+// The share of an orifice with this table in a trial.
 pub(crate) fn orifice_share(
-    law: &OrificeLaw,
+    law: &OrificeLaw<usize>,
+    table: &Table,
     fixed: &LinkFixed,
     first: bool,
     near: i64,
     far: i64,
     last: i64,
 ) -> Share
-    requires law { IsOrificeLaw law.now }
+    requires law { IsOrificeLaw (orifice_with table.now law.now) }
     requires fixed { LinkFixedInRange fixed.now }
     requires near { IsHead near }
     requires far { IsHead far }
     requires last { IsFlow last }
-    ensures { result ≡ orifice_share_of law.now fixed.now first near far last }
+    ensures { result ≡ orifice_share_of (orifice_with table.now law.now) fixed.now first near far last }
 {
-    let area = open_area(law, fixed.setting, near, far);
+    let area = open_area(law, table, fixed.setting, near, far);
     let driven = orifice_flow(&law.orifice, fixed.setting, near, far, area);
     short_share(&law.ends, first, near, far, last, driven)
 }

@@ -13,3 +13,7 @@ pub mod SplitSteps
 pub mod DoneSteps
 pub mod Calls
 pub mod OpeningSteps
+pub mod ClaimCalls
+pub mod DepositLemmas
+pub mod LoadLemmas
+pub mod FurtherLemmas

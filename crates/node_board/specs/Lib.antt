@@ -6,3 +6,5 @@ pub mod Plays
 pub mod Seen
 pub mod Steps
 pub mod Opening
+pub mod Claims
+pub mod Acts

@@ -1,6 +1,7 @@
 -- What contracts see of the board and of its seats.
-use Rattle.std.specs.Prelude.{◌≡◌, ℕ}
+use Rattle.std.specs.Prelude.{◌≡◌, ℕ, false, []}
 use Rattle.atomic_table.specs.Seated.{TableId}
+use Rattle.node_board.specs.declared.views.Plan.{Plan}
 use Rattle.node_board.specs.declared.views.Role.{Role}
 use Rattle.node_board.specs.declared.views.Role.TheVariants.{Leads, Works}
 use Rattle.node_board.specs.declared.views.View.{View}
@@ -33,3 +34,22 @@ IsLead (Works work) = ⊥
 abbrev pub seats_split : Role → ℕ
 seats_split (Leads plan) = plan.splits
 seats_split (Works work) = 0
+
+-- nothing is known
+abbrev pub no_plan : Plan
+no_plan = record {
+  splits = 0;
+  phase = 0;
+  is_open = false;
+  resets = 0;
+  stopped = false;
+  opened = [];
+  known = [];
+}
+
+abbrev pub plan_in : Role → Plan
+plan_in (Leads plan) = plan
+plan_in (Works work) = no_plan
+
+abbrev pub plan_of : {P : Type 0} → View P → Plan
+plan_of v = plan_in v.role

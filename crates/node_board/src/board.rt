@@ -14,9 +14,10 @@ use std::marker::Model;
 type Words<P> = Table<(), View<P>, P, BoardRule, Global>;
 
 /// The board on which seats share the trials of a law. Contracts see its table and its law.
+#[derive(Drop)]
 pub struct Board<P: PhaseLaw> {
-    words: Words<P>,
-    law: P,
+    pub(crate) words: Words<P>,
+    pub(crate) law: P,
 }
 
 impl<P: PhaseLaw> Model for Board<P> {
@@ -33,35 +34,43 @@ impl<P: PhaseLaw> Model for Board<P> {
 }
 
 /// A worker's seat. Contracts see its table and what it knows.
+#[derive(Drop)]
 pub struct Seat<P: PhaseLaw> {
-    place: atomic_table::Seat<(), View<P>>,
+    pub(crate) place: atomic_table::Seat<(), View<P>>,
+    pub(crate) phase: u32,
+    pub(crate) item: u32,
 }
 
 impl<P: PhaseLaw> Model for Seat<P> {
     ghost use Rattle.std.specs.Prelude.{◌≡◌, []};
     ghost use Rattle.node_board.specs.Seen.{SeatSeen, IsWorker};
+    ghost use Rattle.node_board.specs.Shows.{work_of};
 
     ghost Value = { SeatSeen P };
 
     ghost view = { λ s. record { table = s.place.table_id; view = s.place.me.0 } };
 
-    ghost invariant = { λ s. (s.place.me.1 ≡ []) × IsWorker s.place.me.0.role };
+    ghost invariant = { λ s. (s.place.me.1 ≡ []) × IsWorker s.place.me.0.role
+        × (s.phase ≡ (work_of s.place.me.0).tag) × (s.item ≡ (work_of s.place.me.0).item) };
 }
 
 /// The lead's seat. Contracts see its table and what it knows.
+#[derive(Drop)]
 pub struct Lead<P: PhaseLaw> {
-    place: atomic_table::Seat<(), View<P>>,
+    pub(crate) place: atomic_table::Seat<(), View<P>>,
+    pub(crate) phase: u32,
 }
 
 impl<P: PhaseLaw> Model for Lead<P> {
     ghost use Rattle.std.specs.Prelude.{◌≡◌, []};
-    ghost use Rattle.node_board.specs.Seen.{SeatSeen, IsLead};
+    ghost use Rattle.node_board.specs.Seen.{SeatSeen, IsLead, plan_of};
 
     ghost Value = { SeatSeen P };
 
     ghost view = { λ s. record { table = s.place.table_id; view = s.place.me.0 } };
 
-    ghost invariant = { λ s. (s.place.me.1 ≡ []) × IsLead s.place.me.0.role };
+    ghost invariant = { λ s. (s.place.me.1 ≡ []) × IsLead s.place.me.0.role
+        × (s.phase ≡ (plan_of s.place.me.0).phase) };
 }
 
 impl<P: PhaseLaw> Board<P> {
@@ -77,6 +86,10 @@ impl<P: PhaseLaw> Board<P> {
         ensures from { IsOf self.now lead.new }
     {
         let place = self.words.shared.split_seat::<Splitting>(&mut lead.place);
-        Seat { place }
+        Seat {
+            place,
+            phase: 0,
+            item: 0,
+        }
     }
 }

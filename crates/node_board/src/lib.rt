@@ -8,15 +8,28 @@
 //! So far the crate holds the words, the views, the rule, and that each kind of atomic step keeps it, whatever the
 //! order of the steps: a board is opened by the rule and seats are split from the lead ([`boards_open_by_the_rule`],
 //! [`Board::split`]), workers keep the rule ([`workers_keep_the_rule`]), and so does the lead
-//! ([`leads_keep_the_rule`]). The calls by which a board is opened and its seats make these steps are not in the crate:
-//! they come on top.
+//! ([`leads_keep_the_rule`]). Workers make these steps by their calls, in this order: [`Board::claim`]; of a link
+//! [`Board::load_link`], the four adds, [`Board::offer_time`] and [`Board::put_flow`]; of a node [`Board::load_node`],
+//! [`Board::put_head`] and, where it isn't settled, [`Board::mark_unsettled`]; then [`Board::done`]. What a claim tells
+//! is in `specs/Claims.antt`, what a seat holds between its acts in `specs/Acts.antt`. The calls by which a board is
+//! opened and its lead makes its steps are not in the crate: they come on top.
 #![tactic(auto)]
 
 mod board;
+mod claims;
+mod inputs;
+mod items;
 mod laws;
+mod links;
+mod loads;
+mod nodes;
+mod places;
+mod plays;
 mod rule;
 mod views;
 
 pub use board::{Board, Lead, Seat};
+pub use claims::Claim;
+pub use inputs::{LinkInput, NodeInput, Sums};
 pub use laws::{boards_open_by_the_rule, leads_keep_the_rule, workers_keep_the_rule};
 pub use views::{Plan, Role, View};

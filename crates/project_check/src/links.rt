@@ -115,5 +115,5 @@ fn section_area(section: &Section) -> i64
     requires { SectionInRange section.now }
     ensures { result ≡ area_of_section section.now }
 {
-    Table::build(section).full_area()
+    Table::section_area(section)
 }

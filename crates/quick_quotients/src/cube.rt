@@ -12,49 +12,50 @@ pub fn quick_root3(a: i128) -> i128
     requires { pos 0 ≤ℤ a }
     ensures { result ≡ root3_of a }
 {
-    if a >= SHORT {
+    if a >= LONG {
         return root3(a);
     }
-    let short = a as u64;
-    let guess = guess_root3(short);
-    if is_root3(short, guess) {
+    let whole = a as u128;
+    let guess = guess_root3(whole);
+    if is_root3(whole, guess) {
         return guess as i128;
     }
-    if is_root3(short, guess + 1) {
+    if is_root3(whole, guess + 1) {
         return (guess + 1) as i128;
     }
     root3(a)
 }
 
-// The cube roots of all lower numbers have 21 bits.
-const SHORT: i128 = 4_611_686_018_427_387_904;
+// The cube roots of all lower numbers have 28 bits.
+const LONG: i128 = 19_342_813_113_834_066_795_298_816;
 
 // Whether a number is the cube root of another.
-fn is_root3(a: u64, root: u64) -> bool
-    requires { root < 2 ^ 21 }
+fn is_root3(a: u128, root: u64) -> bool
+    requires { root < 2 ^ 28 }
     ensures { IsTrue result → pos root ≡ root3_of (pos a) }
 {
     let next = root + 1;
-    if (a as u128) < root as u128 * root as u128 * root as u128 {
+    if a < root as u128 * root as u128 * root as u128 {
         return false;
     }
-    (a as u128) < next as u128 * next as u128 * next as u128
+    a < next as u128 * next as u128 * next as u128
 }
 
-// A number near the cube root, and mostly the root or one less: two of Newton's steps towards the inverse of the cube
-// root of `a` as a fraction of the next power of two, with 62 places, from a straight line.
-fn guess_root3(a: u64) -> u64
-    ensures { result < 2_097_151 }
+// A number near the cube root, and mostly the root or one less: Newton's steps towards the inverse of the cube root of
+// `a` as a fraction of the next power of two, with 62 places, from a straight line. Two of them serve up to 62 bits.
+fn guess_root3(a: u128) -> u64
+    ensures { result < 268_435_455 }
 {
     if a == 0 {
         return 0;
     }
     let bits = a.ilog2() + 1;
-    let part = a << (64 - bits);
+    let part = ((a << (128 - bits)) / 18_446_744_073_709_551_616) as u64;
     let start = 6_908_305_655_604_227_072u64.wrapping_sub(high(part, 2_351_959_869_397_867_972));
-    let inverse = step(part, step(part, start));
+    let near = step(part, step(part, start));
+    let inverse = if bits > 62 { step(part, near) } else { near };
     let root = high(part, high(inverse, inverse));
-    (high(root, power(bits % 3)) >> (58 - bits / 3)).min(2_097_150)
+    (high(root, power(bits % 3)) >> (58 - bits / 3)).min(268_435_454)
 }
 
 // The cube root of that power of two, with 62 places.

@@ -8,3 +8,5 @@ pub mod Texts
 pub mod StepLines
 pub mod LoadSections
 pub mod WholeTail
+pub mod HotRefusal
+pub mod DemoReport

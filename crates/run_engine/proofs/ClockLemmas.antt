@@ -5,12 +5,12 @@ use Rattle.std.specs.Prelude.{int_lt}
 use Rattle.std.proofs.lemmas.Bool.{cases_lt}
 use Rattle.std.proofs.lemmas.Int.{ints}
 use Rattle.fixed_num.specs.Sums.{below}
-use Rattle.net_types.specs.declared.project.Project.{Project}
 use Rattle.run_engine.specs.Kept.{IsMomentAt}
 use Rattle.run_engine.specs.States.{going_below, length_at, moment_at, nets_at, state, steps_of}
 use Rattle.run_engine.specs.Times.{AreRunOptions, IsRunTime, duration_of, goes_on}
 use Rattle.run_engine.proofs.StateLemmas.{moment_more}
 use Rattle.run_engine.proofs.TimeLemmas.{finish_in, length_in}
+use Rattle.run_engine.specs.declared.start.Start.{Start}
 
 -- ---- how many of the first numbers have a property that is lost once and for all
 abbrev one_of : Bool → ℕ
@@ -56,84 +56,84 @@ not_going : (moment d : ℤ) → d ≤ℤ moment → int_lt moment d ≡ false
 not_going moment d end = grind (arith, ints, end)
 
 -- ---- the moments of a run
-module _ (project : Project) (o : AreRunOptions project.options) where
-  pub times : (k : ℕ) → IsRunTime project.options (moment_at project k)
+module _ (start : Start) (o : AreRunOptions start.project.options) where
+  pub times : (k : ℕ) → IsRunTime start.project.options (moment_at start k)
   unfolding state
   times zero = record { between = record { from = omega (arith, ints); to = o.duration.from }; even = refl }
-  times (suc k) = finish_in o (times k) (nets_at project k).least
+  times (suc k) = finish_in o (times k) (nets_at start k).least
 
   -- once at the end, a run stays there
-  stays_here : (k : ℕ) → duration_of project.options ≤ℤ moment_at project k → duration_of project.options ≤ℤ moment_at project (k + 1)
+  stays_here : (k : ℕ) → duration_of start.project.options ≤ℤ moment_at start k → duration_of start.project.options ≤ℤ moment_at start (k + 1)
   stays_here k end =
-      subst (λ (z : ℤ). duration_of project.options ≤ℤ z) (sym (moment_more project k))
-      (no_earlier (moment_at project k) (length_at project k) (duration_of project.options) end (length_in o (times k) (nets_at project k).least).least)
+      subst (λ (z : ℤ). duration_of start.project.options ≤ℤ z) (sym (moment_more start k))
+      (no_earlier (moment_at start k) (length_at start k) (duration_of start.project.options) end (length_in o (times k) (nets_at start k).least).least)
 
-  stays : (k m : ℕ) → duration_of project.options ≤ℤ moment_at project k → duration_of project.options ≤ℤ moment_at project (k + m)
-  stays k zero end = let e : k ≡ k + 0 = omega arith in subst (λ (j : ℕ). duration_of project.options ≤ℤ moment_at project j) e end
+  stays : (k m : ℕ) → duration_of start.project.options ≤ℤ moment_at start k → duration_of start.project.options ≤ℤ moment_at start (k + m)
+  stays k zero end = let e : k ≡ k + 0 = omega arith in subst (λ (j : ℕ). duration_of start.project.options ≤ℤ moment_at start j) e end
   stays k (suc m) end =
       let e : k + m + 1 ≡ k + suc m = omega arith in
-      subst (λ (j : ℕ). duration_of project.options ≤ℤ moment_at project j) e (stays_here (k + m) (stays k m end))
+      subst (λ (j : ℕ). duration_of start.project.options ≤ℤ moment_at start j) e (stays_here (k + m) (stays k m end))
 
-  stays_ended : (k j : ℕ) → goes_on project.options (moment_at project k) ≡ false → k ≤ j → goes_on project.options (moment_at project j) ≡ false
+  stays_ended : (k j : ℕ) → goes_on start.project.options (moment_at start k) ≡ false → k ≤ j → goes_on start.project.options (moment_at start j) ≡ false
   stays_ended k j past after =
-      let end = stays k (j - k) (ended (moment_at project k) (duration_of project.options) past) in
+      let end = stays k (j - k) (ended (moment_at start k) (duration_of start.project.options) past) in
       let e : k + (j - k) ≡ j = omega (arith, after) in
-      not_going (moment_at project j) (duration_of project.options) (subst (λ (i : ℕ). duration_of project.options ≤ℤ moment_at project i) e end)
+      not_going (moment_at start j) (duration_of start.project.options) (subst (λ (i : ℕ). duration_of start.project.options ≤ℤ moment_at start i) e end)
 
 -- ---- the number of steps
-abbrev going : Project → ℕ → Bool
-going project k = goes_on project.options (moment_at project k)
+abbrev going : Start → ℕ → Bool
+going start k = goes_on start.project.options (moment_at start k)
 
-counted : (project : Project) (k n : ℕ) → ((j : ℕ) → j < k → going project j ≡ true) → k ≤ n → k ≤ going_below project n
+counted : (start : Start) (k n : ℕ) → ((j : ℕ) → j < k → going start j ≡ true) → k ≤ n → k ≤ going_below start n
 unfolding going_below
-counted project k n each within =
-    let all : count (going project) k ≡ k = all_below (going project) k each in
+counted start k n each within =
+    let all : count (going start) k ≡ k = all_below (going start) k each in
     let e : k + (n - k) ≡ n = omega (arith, within) in
-    let most : count (going project) k ≤ count (going project) n = subst (λ (i : ℕ). count (going project) k ≤ count (going project) i) e (at_most (going project) k (n - k)) in
+    let most : count (going start) k ≤ count (going start) n = subst (λ (i : ℕ). count (going start) k ≤ count (going start) i) e (at_most (going start) k (n - k)) in
     omega (arith, all, most)
 
-counted_all : (project : Project) (k n : ℕ) → ((j : ℕ) → j < k → going project j ≡ true) → ((j : ℕ) → k ≤ j → going project j ≡ false) → k ≤ n → k ≡ going_below project n
+counted_all : (start : Start) (k n : ℕ) → ((j : ℕ) → j < k → going start j ≡ true) → ((j : ℕ) → k ≤ j → going start j ≡ false) → k ≤ n → k ≡ going_below start n
 unfolding going_below
-counted_all project k n each none within =
-    let all : count (going project) k ≡ k = all_below (going project) k each in
+counted_all start k n each none within =
+    let all : count (going start) k ≡ k = all_below (going start) k each in
     let e : k + (n - k) ≡ n = omega (arith, within) in
-    let same : count (going project) n ≡ count (going project) k = subst (λ (i : ℕ). count (going project) i ≡ count (going project) k) e (none_above (going project) k (n - k) none) in
+    let same : count (going start) n ≡ count (going start) k = subst (λ (i : ℕ). count (going start) i ≡ count (going start) k) e (none_above (going start) k (n - k) none) in
     omega (arith, all, same)
 
-counted_full : (project : Project) (n : ℕ) → ((j : ℕ) → j < n → going project j ≡ true) → n ≡ going_below project n
+counted_full : (start : Start) (n : ℕ) → ((j : ℕ) → j < n → going start j ≡ true) → n ≡ going_below start n
 unfolding going_below
-counted_full project n each = sym (all_below (going project) n each)
+counted_full start n each = sym (all_below (going start) n each)
 
-pub steps_within : {project : Project} {k : ℕ} {moment : ℤ} → IsMomentAt project k moment → k ≤ steps_of project
+pub steps_within : {start : Start} {k : ℕ} {moment : ℤ} → IsMomentAt start k moment → k ≤ steps_of start
 unfolding steps_of
-steps_within {project} {k} {moment} at = counted project k 50_000_000 at.going at.few
+steps_within {start} {k} {moment} at = counted start k 50_000_000 at.going at.few
 
 -- a run that doesn't go on has made its steps
-pub steps_ended : {project : Project} {k : ℕ} {moment : ℤ} → AreRunOptions project.options → IsMomentAt project k moment → goes_on project.options moment ≡ false → k ≡ steps_of project
+pub steps_ended : {start : Start} {k : ℕ} {moment : ℤ} → AreRunOptions start.project.options → IsMomentAt start k moment → goes_on start.project.options moment ≡ false → k ≡ steps_of start
 unfolding steps_of
-steps_ended {project} {k} {moment} o at past =
-    let here : goes_on project.options (moment_at project k) ≡ false = subst (λ (z : ℤ). goes_on project.options z ≡ false) at.same past in
-    counted_all project k 50_000_000 at.going (λ j h. stays_ended project o k j here h) at.few
+steps_ended {start} {k} {moment} o at past =
+    let here : goes_on start.project.options (moment_at start k) ≡ false = subst (λ (z : ℤ). goes_on start.project.options z ≡ false) at.same past in
+    counted_all start k 50_000_000 at.going (λ j h. stays_ended start o k j here h) at.few
 
-pub steps_full : {project : Project} {k : ℕ} {moment : ℤ} → IsMomentAt project k moment → k ≡ 50_000_000 → k ≡ steps_of project
+pub steps_full : {start : Start} {k : ℕ} {moment : ℤ} → IsMomentAt start k moment → k ≡ 50_000_000 → k ≡ steps_of start
 unfolding steps_of
-steps_full {project} {k} {moment} at full = full ∙ counted_full project 50_000_000 (λ j h. at.going j (subst (λ (n : ℕ). j < n) (sym full) h))
+steps_full {start} {k} {moment} at full = full ∙ counted_full start 50_000_000 (λ j h. at.going j (subst (λ (n : ℕ). j < n) (sym full) h))
 
 -- ---- one step more
-pub moment_next : {project : Project} {k : ℕ} {moment next : ℤ} → IsMomentAt project k moment → goes_on project.options moment ≡ true → k < 50_000_000
-    → next ≡ moment_at project (k + 1) → IsRunTime project.options next → IsMomentAt project (k + 1) next
-moment_next {project} {k} {moment} {next} at goes few is range =
-    let here : going project k ≡ true = subst (λ (z : ℤ). goes_on project.options z ≡ true) at.same goes in
+pub moment_next : {start : Start} {k : ℕ} {moment next : ℤ} → IsMomentAt start k moment → goes_on start.project.options moment ≡ true → k < 50_000_000
+    → next ≡ moment_at start (k + 1) → IsRunTime start.project.options next → IsMomentAt start (k + 1) next
+moment_next {start} {k} {moment} {next} at goes few is range =
+    let here : going start k ≡ true = subst (λ (z : ℤ). goes_on start.project.options z ≡ true) at.same goes in
     record {
       same = is;
       range = range;
       going = λ j h. elim (cases_lt j k) [
         | inl less ↦ at.going j less
-        | inr past ↦ let e : k ≡ j = omega (arith, h, past) in subst (λ (i : ℕ). going project i ≡ true) e here
+        | inr past ↦ let e : k ≡ j = omega (arith, h, past) in subst (λ (i : ℕ). going start i ≡ true) e here
       ];
       few = omega (arith, few);
     }
 
-pub moment_first : (project : Project) → AreRunOptions project.options → IsMomentAt project 0 (pos 0)
+pub moment_first : (start : Start) → AreRunOptions start.project.options → IsMomentAt start 0 (pos 0)
 unfolding state
-moment_first project o = record { same = refl; range = times project o 0; going = λ j h. absurd (omega (arith, h)); few = omega arith }
+moment_first start o = record { same = refl; range = times start o 0; going = λ j h. absurd (omega (arith, h)); few = omega arith }

@@ -11,6 +11,7 @@ use Rattle.run_engine.specs.Laterals.{IsRunoffAt}
 use Rattle.run_engine.specs.Settings.{settings_in}
 use Rattle.run_engine.specs.Times.{AreRunOptions, IsRunStep, IsRunTime}
 use Rattle.run_engine.specs.declared.kept.Kept.{Kept}
+use Rattle.run_engine.specs.declared.start.Start.{Start}
 
 -- a moment of a run lies within the longest run
 pub run_within : {options : Options} {moment : ℤ} → AreRunOptions options → IsRunTime options moment
@@ -22,10 +23,10 @@ pub ends_by : {options : Options} {moment : ℤ} → AreRunOptions options → I
 ends_by o t = (run_within o t).to
 
 -- a step finishes no earlier than it begins
-pub earlier_of : {project : Project} {h : Hydraulics} {kept : Kept} (finish dt : ℤ) → IsKept project h kept
-    → finish ≡ kept.moment +ℤ dt → IsRunStep project.options finish dt
-    → (earlier : ℤ) × IsBetween (pos 0) earlier finish × IsRunoffAt project earlier kept.runoff
-earlier_of {project} {h} {kept} finish dt is e step = (
+pub earlier_of : {start : Start} {h : Hydraulics} {kept : Kept} (finish dt : ℤ) → IsKept start h kept
+    → finish ≡ kept.moment +ℤ dt → IsRunStep start.project.options finish dt
+    → (earlier : ℤ) × IsBetween (pos 0) earlier finish × IsRunoffAt start earlier kept.runoff
+earlier_of {start} {h} {kept} finish dt is e step = (
   kept.moment,
   record { from = is.clock.range.between.from; to = omega (arith, ints, e, step.length_in.least) },
   is.runoff,

@@ -5,11 +5,11 @@ use Rattle.fixed_num.specs.Lists.{number, list_of}
 use Rattle.fixed_num.specs.Ranges.{IsWithin, cut_of}
 use Rattle.fixed_num.proofs.Bounds.{le_number, within_cut, within_minus, within_number}
 use Rattle.net_types.specs.declared.project.Project.{Project}
-use Rattle.runoff_states.specs.RunoffStates.{start_state}
 use Rattle.runoff_states.specs.RunoffTimes.{runoff_at}
 use Rattle.time_series.specs.LateralFlow.{lateral_at}
 use Rattle.trial_model.proofs.RangeLemmas.{listed}
-use Rattle.run_engine.specs.Laterals.{laterals_at, node_lateral}
+use Rattle.run_engine.specs.Laterals.{laterals_at, node_lateral, runoff_start}
+use Rattle.run_engine.specs.declared.start.Start.{Start}
 
 own_of : (project : Project) (moment : ℤ) {flows : List ℤ} → flows ≡ list_of (λ n. lateral_at project n moment) (length project.nodes)
     → (n : ℕ) → n < length project.nodes → number flows n ≡ lateral_at project n moment
@@ -24,15 +24,15 @@ pub own_small : (project : Project) (moment : ℤ) {flows : List ℤ} → flows 
 own_small project moment is n inside =
     subst (IsWithin (10 ^ 12)) (sym (own_of project moment is n inside)) (own_within project n moment)
 
-pub laterals_found : (project : Project) (moment : ℤ) {flows found : List ℤ}
-    → flows ≡ list_of (λ n. lateral_at project n moment) (length project.nodes) → length found ≡ length flows
-    → ((n : ℕ) → n < length project.nodes → number found n
-    ≡ cut_of (number flows n +ℤ runoff_at project (start_state project) moment n) (neg_ℤ (pos (10 ^ 12))) (pos (10 ^ 12)))
-    → found ≡ laterals_at project moment
+pub laterals_found : (start : Start) (moment : ℤ) {flows found : List ℤ}
+    → flows ≡ list_of (λ n. lateral_at start.project n moment) (length start.project.nodes) → length found ≡ length flows
+    → ((n : ℕ) → n < length start.project.nodes → number found n
+    ≡ cut_of (number flows n +ℤ runoff_at start.project (runoff_start start) moment n) (neg_ℤ (pos (10 ^ 12))) (pos (10 ^ 12)))
+    → found ≡ laterals_at start moment
 unfolding node_lateral
-laterals_found project moment {flows} {found} is count each =
-    let many = ap (λ (xs : List ℤ). length xs) is ∙ length-map-range_with_len (λ k. lateral_at project k moment) 0 (length project.nodes) in
-    fill_by_all (λ n. node_lateral project n moment) found (length project.nodes) (pos 0) (count ∙ many)
+laterals_found start moment {flows} {found} is count each =
+    let many = ap (λ (xs : List ℤ). length xs) is ∙ length-map-range_with_len (λ k. lateral_at start.project k moment) 0 (length start.project.nodes) in
+    fill_by_all (λ n. node_lateral start n moment) found (length start.project.nodes) (pos 0) (count ∙ many)
     (λ n inside. each n inside
-    ∙ ap (λ (x : ℤ). cut_of (x +ℤ runoff_at project (start_state project) moment n) (neg_ℤ (pos (10 ^ 12))) (pos (10 ^ 12)))
-    (own_of project moment is n inside))
+    ∙ ap (λ (x : ℤ). cut_of (x +ℤ runoff_at start.project (runoff_start start) moment n) (neg_ℤ (pos (10 ^ 12))) (pos (10 ^ 12)))
+    (own_of start.project moment is n inside))

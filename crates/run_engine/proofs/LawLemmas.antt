@@ -37,3 +37,7 @@ link_in h l inside = inside
 pub node_law_is : (project : Project) (n : ℕ) → n < length project.nodes → node_law_at (hydraulics_of project) n ≡ node_law_of project n
 unfolding hydraulics_of node_law_at
 node_law_is project n inside = get_or-map-range_with_len (node_law_of project) 0 (length project.nodes) n n no_node_law inside (omega arith)
+
+pub node_in : (project : Project) (n : ℕ) → n < length project.nodes → n < length (hydraulics_of project).nodes
+unfolding hydraulics_of
+node_in project n inside = omega (arith, inside, length-map-range_with_len (node_law_of project) 0 (length project.nodes))

@@ -19,7 +19,9 @@ pub mod LineLemmas
 pub mod LineLaws
 pub mod StepsLemmas
 pub mod SubLemmas
+pub mod SubStateLemmas
 pub mod OutfallLemmas
 pub mod SoilLemmas
 pub mod VolumeLemmas
 pub mod InputLemmas
+pub mod HotLemmas

@@ -6,14 +6,13 @@ use Rattle.std.proofs.lemmas.Bool.{cases_lt}
 use Rattle.std.proofs.lemmas.Bool.Decides.{nat_tests}
 use Rattle.std.proofs.lemmas.Int.{ints}
 use Rattle.std.proofs.lemmas.Nat.{mul-le}
-use Rattle.fixed_num.specs.Ranges.{IsBetween}
-use Rattle.net_types.specs.declared.project.Project.{Project}
 use Rattle.project_check.specs.Faultless.{IsFaultless}
 use Rattle.run_engine.specs.States.{moment_at}
 use Rattle.run_engine.specs.StepLines.{ReachesReport, has_line}
 use Rattle.run_engine.proofs.ClockLemmas.{times}
 use Rattle.run_engine.proofs.LineLemmas.{has_line_next}
 use Rattle.run_engine.proofs.RunLemmas.{run_options}
+use Rattle.run_engine.specs.declared.start.Start.{Start}
 
 -- ---- of amounts
 below_of : (a b r : ℕ) → 0 < r → a / r < b / r → a < b / r * r
@@ -63,14 +62,14 @@ reached (negsuc a) b r m h k s low high = absurd (omega (arith, ints, h))
 reached a (negsuc b) r m h k s low high = absurd (omega (arith, ints, k))
 reached a b (negsuc r) m h k s low high = absurd (omega (arith, ints, s))
 
-pub line_law : (project : Project) (k : ℕ) → IsFaultless project → (has_line project (k + 1) ≡ true) ↔ ReachesReport project k
-line_law project k r =
-    let options = project.options in
-    let before = (times project (run_options project r) k).between.from in
-    let after = (times project (run_options project r) (k + 1)).between.from in
+pub line_law : (start : Start) (k : ℕ) → IsFaultless start.project → (has_line start (k + 1) ≡ true) ↔ ReachesReport start k
+line_law start k r =
+    let options = start.project.options in
+    let before = (times start (run_options start.project r) k).between.from in
+    let after = (times start (run_options start.project r) (k + 1)).between.from in
     let step = r.sound.options.report_in.from in (
       λ line.
-          let both = reaches (moment_at project k) (moment_at project (k + 1)) options.report_ms before after step (sym (has_line_next project k) ∙ line) in
-          record { multiple = unsigned_abs (moment_at project (k + 1)) / unsigned_abs options.report_ms; after = both.0; reached = both.1 },
-      λ at. has_line_next project k ∙ reached (moment_at project k) (moment_at project (k + 1)) options.report_ms at.multiple before after step at.after at.reached,
+          let both = reaches (moment_at start k) (moment_at start (k + 1)) options.report_ms before after step (sym (has_line_next start k) ∙ line) in
+          record { multiple = unsigned_abs (moment_at start (k + 1)) / unsigned_abs options.report_ms; after = both.0; reached = both.1 },
+      λ at. has_line_next start k ∙ reached (moment_at start k) (moment_at start (k + 1)) options.report_ms at.multiple before after step at.after at.reached,
     )

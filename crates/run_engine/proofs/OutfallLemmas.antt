@@ -1,22 +1,20 @@
 -- The summaries of outfalls: of no state, and what they are of all states so far.
-use Rattle.std.proofs.Common.{◌≡◌, ◌∙◌, ℕ, zero, suc, ◌+◌, ◌*◌, ◌^◌, ◌<◌, List, [], ◌∷◌, length, map, slice_index_or, ℤ, pos, refl, sym, ap, subst, inl, inr, arith, add-one}
+use Rattle.std.proofs.Common.{◌≡◌, ◌∙◌, ℕ, ◌+◌, ◌<◌, List, [], ◌∷◌, length, map, slice_index_or, pos, refl, sym, ap, subst, inl, inr, arith, add-one}
 use Rattle.std.specs.List.{All}
 use Rattle.std.proofs.lemmas.Bool.{cases_lt}
 use Rattle.std.proofs.lemmas.Int.{ints}
 use Rattle.std.proofs.lemmas.List.{ext_get_or, get_or-map, get_or_past, length-map}
 use Rattle.std.proofs.lemmas.List.Elements.{All-from_get_or}
-use Rattle.fixed_num.specs.Lists.{number}
-use Rattle.fixed_num.specs.Ranges.{IsBetween, IsFlow, IsWithin}
-use Rattle.net_types.specs.declared.project.Project.{Project}
 use Rattle.phase_law.specs.Law.{Law}
-use Rattle.summaries.specs.Loads.{AreLoads, AreLoadsOf, HasNets, Loads, load_at, load_of, no_load, no_loads, outfall_nodes, outfalls_from}
+use Rattle.summaries.specs.Loads.{AreLoadsOf, HasNets, Loads, load_at, load_of, no_load, no_loads, outfall_nodes, outfalls_from}
 use Rattle.summaries.specs.declared.outfall_summary.OutfallSummary.{OutfallSummary}
-use Rattle.trial_model.specs.Fits.{Fits, node_fixed_at}
+use Rattle.trial_model.specs.Fits.{Fits}
 use Rattle.trial_model.specs.Start.{no_node}
 use Rattle.trial_model.specs.declared.nets.Nets.{Nets}
 use Rattle.run_engine.specs.Kept.{AreLoadsAt}
 use Rattle.run_engine.specs.Results.{length_before, outfall_summaries}
 use Rattle.run_engine.specs.States.{length_at, nets_at}
+use Rattle.run_engine.specs.declared.start.Start.{Start}
 
 -- ---- the numbers of a state of a law, also past its nodes
 pub has_nets : {law : Law} {nets : Nets} → Fits law nets → HasNets (length nets.nodes) nets
@@ -43,24 +41,24 @@ has_nets {law} {nets} fits = record {
 }
 
 -- ---- the length of the step before a state
-pub length_none : (project : Project) → pos 0 ≡ length_before project 0
+pub length_none : (start : Start) → pos 0 ≡ length_before start 0
 unfolding length_before
-length_none project = refl
+length_none start = refl
 
-pub length_next : (project : Project) (k : ℕ) → length_at project k ≡ length_before project (k + 1)
+pub length_next : (start : Start) (k : ℕ) → length_at start k ≡ length_before start (k + 1)
 unfolding length_before
-length_next project k = rw (add-one k) refl
+length_next start k = rw (add-one k) refl
 
 -- ---- of no state
 nodes_none : (ns : List ℕ) → outfall_nodes (map no_load ns) ≡ ns
 nodes_none [] = refl
 nodes_none (n ∷ ns) = ap (λ (l : List ℕ). n ∷ l) (nodes_none ns)
 
-pub loads_none : (project : Project) (loads : Loads) → loads ≡ no_loads project → AreLoadsOf (length project.nodes) loads → AreLoadsAt project 0 loads
-loads_none project loads is good = rw is (record {
-  good = subst (AreLoadsOf (length project.nodes)) is good;
+pub loads_none : (start : Start) (loads : Loads) → loads ≡ no_loads start.project → AreLoadsOf (length start.project.nodes) loads → AreLoadsAt start 0 loads
+loads_none start loads is good = rw is (record {
+  good = subst (AreLoadsOf (length start.project.nodes)) is good;
   states = refl;
-  outfalls = nodes_none (outfalls_from 0 project.nodes);
+  outfalls = nodes_none (outfalls_from 0 start.project.nodes);
   summaries = record { each = λ last e. absurd (no_state last e) };
 })
   where
@@ -68,12 +66,12 @@ loads_none project loads is good = rw is (record {
     no_state last e = omega (arith, e)
 
 -- ---- of all states so far
-pub outfalls_are : (project : Project) (k : ℕ) (loads : Loads) → AreLoadsAt project (k + 1) loads → loads.outfalls ≡ outfall_summaries project k
+pub outfalls_are : (start : Start) (k : ℕ) (loads : Loads) → AreLoadsAt start (k + 1) loads → loads.outfalls ≡ outfall_summaries start k
 unfolding outfall_summaries
-outfalls_are project k loads are =
-    let of = load_of (nets_at project) (length_before project) k in
+outfalls_are start k loads are =
+    let of = load_of (nets_at start) (length_before start) k in
     let node = λ (o : OutfallSummary). o.node in
-    let ns = outfalls_from 0 project.nodes in
+    let ns = outfalls_from 0 start.project.nodes in
     let count : length loads.outfalls ≡ length ns = sym (length-map loads.outfalls node) ∙ ap length are.outfalls in
     ext_get_or (no_load 0) loads.outfalls (map of ns) (count ∙ sym (length-map ns of))
     (λ i inside.

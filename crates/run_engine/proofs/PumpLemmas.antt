@@ -1,5 +1,5 @@
 -- The settings that pumps have by the depth at their inlet: the link, its first node and the depth there.
-use Rattle.std.proofs.Common.{◌≡◌, ◌∙◌, ℕ, ◌*◌, ◌^◌, ◌<◌, List, length, refl, sym, ap, ℤ, ◌-ℤ◌, get_or, subst, arith}
+use Rattle.std.proofs.Common.{◌≡◌, ◌∙◌, ℕ, ◌<◌, List, length, sym, ap, ℤ, ◌-ℤ◌, get_or, subst, arith}
 use Rattle.std.proofs.lemmas.List.{get_or_default}
 use Rattle.std.proofs.lemmas.List.Elements.{All-get_or}
 use Rattle.fixed_num.specs.Lists.{number}

@@ -1,6 +1,6 @@
 -- The settings over a step are parts, and as many as the links.
-use Rattle.std.proofs.Common.{◌≡◌, ◌∙◌, ℕ, ◌==◌, ◌<◌, Bool, true, false, ◌&&◌, if◌then◌else◌, List, [], ◌∷◌, ◌++◌, length, map}
-use Rattle.std.proofs.Common.{Option, Some, None, IfSome, ℤ, pos, int_le, int_lt, refl, sym, ap, subst, arith}
+use Rattle.std.proofs.Common.{◌≡◌, ◌∙◌, ℕ, ◌==◌, ◌<◌, Bool, true, false, ◌&&◌, if◌then◌else◌, List, [], ◌∷◌, length, map}
+use Rattle.std.proofs.Common.{Option, Some, None, IfSome, ℤ, pos, int_le, int_lt, sym, ap, subst, arith}
 use Rattle.std.specs.List.{All, flat_map}
 use Rattle.std.specs.Option.{option_map_or}
 use Rattle.std.proofs.lemmas.Int.{ints}
@@ -10,9 +10,9 @@ use Rattle.std.proofs.lemmas.List.FromFn.{length-map-range_with_len}
 use Rattle.control_rules.specs.Conditions.{Conditions}
 use Rattle.control_rules.specs.Settings.{Taken, actions_of, all_taken, decisive, outranks, setting_after, settings_of, stronger, taken_by}
 use Rattle.control_rules.specs.Tests.{is_met}
-use Rattle.fixed_num.specs.Lists.{list_of, number}
+use Rattle.fixed_num.specs.Lists.{number}
 use Rattle.fixed_num.specs.Ranges.{IsPart}
-use Rattle.net_types.specs.Ranges.{ActionInRange, RuleInRange}
+use Rattle.net_types.specs.Ranges.{RuleInRange}
 use Rattle.net_types.specs.Records.{link_at}
 use Rattle.net_types.specs.declared.network.LinkKind.{LinkKind}
 use Rattle.net_types.specs.declared.network.LinkKind.TheVariants.{Conduit, Pump, Orifice, Weir}
@@ -22,7 +22,7 @@ use Rattle.net_types.specs.declared.rules.Action.{Action}
 use Rattle.net_types.specs.declared.rules.Rule.{Rule}
 use Rattle.phase_law.specs.declared.values.LinkFixed.{LinkFixed}
 use Rattle.pump_flow.specs.PumpSetting.{pump_setting_of}
-use Rattle.trial_model.specs.Fits.{LinksFit, link_fixed_at}
+use Rattle.trial_model.specs.Fits.{link_fixed_at}
 use Rattle.trial_model.specs.declared.nets.Nets.{Nets}
 use Rattle.trial_model.proofs.RangeLemmas.{listed}
 use Rattle.project_check.specs.Faultless.{IsFaultless}

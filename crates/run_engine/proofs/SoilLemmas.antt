@@ -1,19 +1,18 @@
 -- How much water a step of runoff can move: its volumes by the depths on the subareas.
-use Rattle.std.proofs.Common.{◌≡◌, ◌∙◌, ℕ, zero, suc, ◌+◌, ◌*◌, ◌/◌, ◌^◌, ◌≤◌, Bool, true, false, if◌then◌else◌, int_lt, Option, Some, None, IfSome}
-use Rattle.std.proofs.Common.{ℤ, pos, negsuc, ◌+ℤ◌, ◌-ℤ◌, ◌*ℤ◌, ◌≤ℤ◌, ◌<ℤ◌, unsigned_abs, refl, sym, ap, subst, arith}
-use Rattle.std.specs.Int.{int_min, int_max}
+use Rattle.std.proofs.Common.{◌≡◌, ℕ, zero, suc, ◌+◌, ◌*◌, ◌^◌, ◌≤◌, Bool, true, false, if◌then◌else◌, int_lt, Option, Some, None, IfSome}
+use Rattle.std.proofs.Common.{ℤ, pos, ◌+ℤ◌, ◌-ℤ◌, ◌*ℤ◌, ◌≤ℤ◌, ◌<ℤ◌, unsigned_abs, refl, subst, arith}
+use Rattle.std.specs.Int.{int_min}
 use Rattle.std.proofs.lemmas.Int.{ints, clamps, unsigned_abs-mul}
 use Rattle.std.proofs.lemmas.Nat.{mul-le}
-use Rattle.fixed_num.specs.Lists.{number}
-use Rattle.fixed_num.specs.Ranges.{IsBetween, IsPart, IsRate, IsSmallDepth, IsWithin}
+use Rattle.fixed_num.specs.Ranges.{IsBetween, IsWithin}
 use Rattle.fixed_num.specs.Rounding.{quo_of}
 use Rattle.fixed_num.specs.Sums.{sum_below}
 use Rattle.fixed_num.proofs.Between.{lt_number}
 use Rattle.fixed_num.proofs.Bounds.{within_between, within_up}
 use Rattle.fixed_num.proofs.RoundingLemmas.{IsNearest-quo_of}
-use Rattle.infiltration.specs.CurveNumber.{IsCurveState, number_taken_of, rain_taken_of, soaked_of}
+use Rattle.infiltration.specs.CurveNumber.{IsCurveState, rain_taken_of}
 use Rattle.infiltration.specs.Depths.{IsRunoffStep, depth_of}
-use Rattle.infiltration.specs.Horton.{IsHortonCurve, IsHortonState, horton_taken_of, rate_of, wet_taken_of, within_volume_of}
+use Rattle.infiltration.specs.Horton.{IsHortonCurve, IsHortonState, rate_of, wet_taken_of, within_volume_of}
 use Rattle.infiltration.specs.Infiltration.{IsInfil, IsStateUpTo, taken_by, taken_of}
 use Rattle.net_types.specs.declared.hydrology.Infil.{Infil}
 use Rattle.net_types.specs.declared.hydrology.Infil.TheVariants.{Horton as HortonBy, Number as NumberBy}

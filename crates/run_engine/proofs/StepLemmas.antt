@@ -6,7 +6,6 @@ use Rattle.continuity.specs.StepOf.{IsBelowTops, IsFixedOf, IsStepOf}
 use Rattle.link_eval.specs.Good.{IsGood}
 use Rattle.link_eval.specs.Hydraulics.{hydraulics_of, law_of, node_law_at}
 use Rattle.link_eval.specs.declared.hydraulics.Hydraulics.{Hydraulics}
-use Rattle.net_types.specs.declared.project.Project.{Project}
 use Rattle.node_update.proofs.UpdateLemmas.{next_place}
 use Rattle.node_update.specs.NodeUpdate.{net_of}
 use Rattle.node_update.specs.NodeLaws.{is_outfall_rule}
@@ -21,6 +20,7 @@ use Rattle.trial_model.specs.declared.nets.Nets.{Nets}
 use Rattle.trial_model.specs.declared.step.StepEnd.{StepEnd}
 use Rattle.run_engine.specs.Kept.{HaveSameCounts}
 use Rattle.run_engine.specs.States.{next_nets, prepared, prepared_node, project_law, step_end}
+use Rattle.run_engine.specs.declared.start.Start.{Start}
 
 -- two states that fit a law have as many of everything
 pub same_counts : {law : Law} {a b : Nets} → Fits law a → Fits law b → HaveSameCounts a b
@@ -45,24 +45,24 @@ unfolding trials
 trials_nodes law s zero = refl
 trials_nodes law s (suc k) = trial_nodes law (trials law s k) (eqb k 0) ∙ trials_nodes law s k
 
-prepared_at : (project : Project) (finish dt : ℤ) (s : Nets) (n : ℕ) → n < (project_law project).nodes → node_fixed_at (prepared project finish dt s).nodes n ≡ prepared_node project s finish dt n
+prepared_at : (start : Start) (finish dt : ℤ) (s : Nets) (n : ℕ) → n < (project_law start.project).nodes → node_fixed_at (prepared start finish dt s).nodes n ≡ prepared_node start s finish dt n
 unfolding prepared
-prepared_at project finish dt s n h = get_or-map-range_with_len (prepared_node project s finish dt) 0 (project_law project).nodes n n no_node h (omega arith)
+prepared_at start finish dt s n h = get_or-map-range_with_len (prepared_node start s finish dt) 0 (project_law start.project).nodes n n no_node h (omega arith)
 
 net_is : (fixed : NodeFixed) (inflow outflow : ℤ) → fixed.lateral +ℤ inflow -ℤ outflow ≡ net_of fixed inflow outflow
 unfolding net_of
 net_is fixed inflow outflow = refl
 
 -- a state and the next belong together
-pub step_is : (project : Project) (finish dt : ℤ) (s : Nets) → IsStepOf (hydraulics_of project) s (next_nets project finish dt s) dt
+pub step_is : (start : Start) (finish dt : ℤ) (s : Nets) → IsStepOf (hydraulics_of start.project) s (next_nets start finish dt s) dt
 unfolding next_nets
-step_is project finish dt s =
-    let law = project_law project in
-    let made = (step_end project finish dt s).trials in
+step_is start finish dt s =
+    let law = project_law start.project in
+    let made = (step_end start finish dt s).trials in
     record {
       each = λ n h.
-          let here : node_fixed_at (trials law (prepared project finish dt s) made).nodes n ≡ prepared_node project s finish dt n =
-          ap (λ nodes. node_fixed_at nodes n) (trials_nodes law (prepared project finish dt s) made) ∙ prepared_at project finish dt s n h in
+          let here : node_fixed_at (trials law (prepared start finish dt s) made).nodes n ≡ prepared_node start s finish dt n =
+          ap (λ nodes. node_fixed_at nodes n) (trials_nodes law (prepared start finish dt s) made) ∙ prepared_at start finish dt s n h in
           subst (IsFixedOf s dt n) (sym here) (record { head = refl; net = net_is (node_fixed_at s.nodes n) (number s.inflows n) (number s.outflows n); length = refl });
     }
 
@@ -95,20 +95,20 @@ unfolding trials
 trials_tops good s zero below = below
 trials_tops {h} good s (suc k) below = trial_tops good (trials (law_of h) s k) (eqb k 0) (trials_tops good s k below)
 
-prepared_tops : {h : Hydraulics} (project : Project) (finish dt : ℤ) (s : Nets) → IsBelowTops h s → IsBelowTops h (prepared project finish dt s)
+prepared_tops : {h : Hydraulics} (start : Start) (finish dt : ℤ) (s : Nets) → IsBelowTops h s → IsBelowTops h (prepared start finish dt s)
 unfolding prepared
-prepared_tops project finish dt s below = record { each = below.each }
+prepared_tops start finish dt s below = record { each = below.each }
 
-pub next_tops : (project : Project) (finish dt : ℤ) (s : Nets) → IsGood (hydraulics_of project) → IsBelowTops (hydraulics_of project) s → IsBelowTops (hydraulics_of project) (next_nets project finish dt s)
+pub next_tops : (start : Start) (finish dt : ℤ) (s : Nets) → IsGood (hydraulics_of start.project) → IsBelowTops (hydraulics_of start.project) s → IsBelowTops (hydraulics_of start.project) (next_nets start finish dt s)
 unfolding next_nets
-next_tops project finish dt s good below = trials_tops good (prepared project finish dt s) (step_end project finish dt s).trials (prepared_tops project finish dt s below)
+next_tops start finish dt s good below = trials_tops good (prepared start finish dt s) (step_end start finish dt s).trials (prepared_tops start finish dt s below)
 
 -- ---- the trials of a state that was made ready give the next one
-module _ (project : Project) (finish dt : ℤ) (s : Nets) (h : Hydraulics) (ready new : Nets) (end : StepEnd) (law : h ≡ hydraulics_of project) (made : ready ≡ prepared project finish dt s) (ended : end ≡ end_of (law_of h) ready project.options.max_trials) where
-  pub end_is : end ≡ step_end project finish dt s
+module _ (start : Start) (finish dt : ℤ) (s : Nets) (h : Hydraulics) (ready new : Nets) (end : StepEnd) (law : h ≡ hydraulics_of start.project) (made : ready ≡ prepared start finish dt s) (ended : end ≡ end_of (law_of h) ready start.project.options.max_trials) where
+  pub end_is : end ≡ step_end start finish dt s
   unfolding step_end
   end_is = ended ∙ rw (law, made) refl
 
-  pub next_is : new ≡ trials (law_of h) ready end.trials → new ≡ next_nets project finish dt s
+  pub next_is : new ≡ trials (law_of h) ready end.trials → new ≡ next_nets start finish dt s
   unfolding next_nets
   next_is all = all ∙ rw (law, made, end_is) refl

@@ -7,7 +7,6 @@ use Rattle.std.proofs.lemmas.List.{length-map, length-replicate, get_or-map, get
 use Rattle.std.proofs.lemmas.List.FromFn.{fill_by_all, get_or-map-range_with_len, length-map-range_with_len}
 use Rattle.fixed_num.specs.Ranges.{IsHead, IsFlow}
 use Rattle.net_types.specs.declared.network.Node.{Node}
-use Rattle.net_types.specs.declared.project.Project.{Project}
 use Rattle.net_types.specs.Records.{node_at, no_node}
 use Rattle.summaries.specs.Figures.{Figures, AreFigures, inverts_of}
 use Rattle.summaries.specs.Figures.{new_figures, node_summary}
@@ -23,6 +22,7 @@ use Rattle.run_engine.proofs.LawLemmas.{law_nodes}
 use Rattle.continuity.specs.Account.{floods_of, flood_at}
 use Rattle.link_eval.specs.Hydraulics.{hydraulics_of, law_of}
 use Rattle.link_eval.specs.declared.hydraulics.Hydraulics.{Hydraulics}
+use Rattle.run_engine.specs.declared.start.Start.{Start}
 
 -- ---- lists
 same_lists : {A : Type 0} (none : A) (f g : ℕ → A) (count : ℕ) → ((n : ℕ) → n < count → f n ≡ g n) → list_of f count ≡ list_of g count
@@ -33,12 +33,12 @@ same_lists none f g count each =
 no_state : (last : ℕ) → 0 ≡ last + 1 → ⊥
 no_state last e = omega (arith, e)
 
-pub new_sums : (project : Project) → AreFigures (new_figures project) → AreSumsOf project 0 (new_figures project)
-new_sums project good = record {
+pub new_sums : (start : Start) → AreFigures (new_figures start.project) → AreSumsOf start 0 (new_figures start.project)
+new_sums start good = record {
   good = good;
   states = refl;
   inverts = refl;
-  links = length-replicate (length project.links) no_link_summary;
+  links = length-replicate (length start.project.links) no_link_summary;
   summaries = record { nodes = λ last e. absurd (no_state last e); links = λ last e. absurd (no_state last e) };
 }
 
@@ -46,18 +46,18 @@ new_sums project good = record {
 invert_is : (nodes : List Node) (n : ℕ) → n < length nodes → number (inverts_of nodes) n ≡ (node_at nodes n).invert
 invert_is nodes n h = get_or-map (λ (node : Node). node.invert) nodes n no_node (pos 0) h
 
-pub nodes_are : (project : Project) (k : ℕ) (figures : Figures) → AreSumsOf project (k + 1) figures → figures.nodes ≡ node_summaries project k
+pub nodes_are : (start : Start) (k : ℕ) (figures : Figures) → AreSumsOf start (k + 1) figures → figures.nodes ≡ node_summaries start k
 unfolding node_summaries
-nodes_are project k figures sums =
-    let of = λ (invert : ℤ) (n : ℕ). node_summary (nets_at project) (floods_at project) (moment_at project) k invert n in
-    let inverts = inverts_of project.nodes in
+nodes_are start k figures sums =
+    let of = λ (invert : ℤ) (n : ℕ). node_summary (nets_at start) (floods_at start) (moment_at start) k invert n in
+    let inverts = inverts_of start.project.nodes in
     let here : figures.nodes ≡ list_of (λ n. of (number inverts n) n) (length inverts) = rw sums.inverts at sums.summaries.nodes k sums.states in
-    here ∙ ap (list_of (λ n. of (number inverts n) n)) (length-map project.nodes (λ (node : Node). node.invert))
-    ∙ same_lists no_node_summary (λ n. of (number inverts n) n) (λ n. of (node_at project.nodes n).invert n) (length project.nodes) (λ n h. ap (λ (z : ℤ). of z n) (invert_is project.nodes n h))
+    here ∙ ap (list_of (λ n. of (number inverts n) n)) (length-map start.project.nodes (λ (node : Node). node.invert))
+    ∙ same_lists no_node_summary (λ n. of (number inverts n) n) (λ n. of (node_at start.project.nodes n).invert n) (length start.project.nodes) (λ n h. ap (λ (z : ℤ). of z n) (invert_is start.project.nodes n h))
 
-pub links_are : (project : Project) (k : ℕ) (figures : Figures) → AreSumsOf project (k + 1) figures → figures.links ≡ link_summaries project k
+pub links_are : (start : Start) (k : ℕ) (figures : Figures) → AreSumsOf start (k + 1) figures → figures.links ≡ link_summaries start k
 unfolding link_summaries
-links_are project k figures sums = rw sums.links at sums.summaries.links k sums.states
+links_are start k figures sums = rw sums.links at sums.summaries.links k sums.states
 
 -- ---- what a state gives to the summaries, in range
 pub head_at : (h : Hydraulics) (heads : List ℤ) → HeadsFit (law_of h) heads → (n : ℕ) → IsHead (number heads n)
@@ -73,14 +73,14 @@ flow_at h flows fit l = elim (cases_lt l (length flows)) [
 ]
 
 -- ---- counts
-pub inverts_count : {project : Project} {count : ℕ} {figures : Figures} → AreSumsOf project count figures → length figures.inverts ≡ length project.nodes
-inverts_count {project} sums = ap length sums.inverts ∙ length-map project.nodes (λ (node : Node). node.invert)
+pub inverts_count : {start : Start} {count : ℕ} {figures : Figures} → AreSumsOf start count figures → length figures.inverts ≡ length start.project.nodes
+inverts_count {start} sums = ap length sums.inverts ∙ length-map start.project.nodes (λ (node : Node). node.invert)
 
 floods_length : (h : Hydraulics) (s : Nets) → length (floods_of h s) ≡ (law_of h).nodes
 unfolding floods_of
 floods_length h s = length-map-range_with_len (flood_at h s) 0 (law_of h).nodes
 
-pub floods_count : (project : Project) (k : ℕ) → length (floods_at project k) ≡ length project.nodes
+pub floods_count : (start : Start) (k : ℕ) → length (floods_at start k) ≡ length start.project.nodes
 unfolding floods_at
-floods_count project zero = length-replicate (length project.nodes) (pos 0)
-floods_count project (suc k) = floods_length (hydraulics_of project) (nets_at project (suc k)) ∙ law_nodes project
+floods_count start zero = length-replicate (length start.project.nodes) (pos 0)
+floods_count start (suc k) = floods_length (hydraulics_of start.project) (nets_at start (suc k)) ∙ law_nodes start.project

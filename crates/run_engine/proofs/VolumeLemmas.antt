@@ -1,13 +1,12 @@
 -- How much water the steps of runoff of a run can move: the sums over all of them are within 10^37 mm³.
-use Rattle.std.proofs.Common.{◌≡◌, ◌∙◌, ℕ, zero, suc, ◌+◌, ◌*◌, ◌^◌, ◌<◌, ◌≤◌, List, [], ◌∷◌, length}
-use Rattle.std.proofs.Common.{ℤ, pos, ◌+ℤ◌, ◌-ℤ◌, ◌*ℤ◌, ◌≤ℤ◌, unsigned_abs, refl, sym, ap, subst, arith}
+use Rattle.std.proofs.Common.{IfSome, None, Option, Some, ◌≡◌, ℕ, zero, suc, ◌+◌, ◌*◌, ◌^◌, ◌<◌, ◌≤◌, List, [], ◌∷◌, length}
+use Rattle.std.proofs.Common.{ℤ, pos, ◌+ℤ◌, ◌-ℤ◌, ◌*ℤ◌, ◌≤ℤ◌, unsigned_abs, sym, ap, subst, arith}
 use Rattle.std.proofs.lemmas.Int.{ints}
 use Rattle.std.proofs.lemmas.List.Elements.{All-get_or}
 use Rattle.std.proofs.lemmas.List.FromFn.{get_or-map-range_with_len}
 use Rattle.fixed_num.specs.Lists.{number}
-use Rattle.fixed_num.specs.Ranges.{IsBetween, IsRate, IsWithin}
+use Rattle.fixed_num.specs.Ranges.{IsBetween, IsRate}
 use Rattle.fixed_num.specs.Sums.{sum_below, sum_over}
-use Rattle.fixed_num.specs.declared.constants.TheConstants.{RECORD_LIMIT}
 use Rattle.fixed_num.proofs.Bounds.{between_cut}
 use Rattle.fixed_num.proofs.SignedSums.{sum_same}
 use Rattle.infiltration.specs.Depths.{IsRunoffStep, depth_of}
@@ -20,20 +19,25 @@ use Rattle.net_types.specs.Ranges.{SubInRange}
 use Rattle.net_types.specs.declared.hydrology.Sub.{Sub}
 use Rattle.net_types.specs.declared.project.Project.{Project}
 use Rattle.project_check.specs.Faultless.{IsFaultless}
-use Rattle.rain_gages.specs.Intensity.{intensity_of, rate_of}
-use Rattle.runoff.specs.RunoffStep.{bare_step_of, paved_step_of, pervious_step_of, soaked_of, start_of_sub, sub_state_after, sub_step_of}
-use Rattle.runoff.specs.Subareas.{IsSubcatchment, bare_of, infil_or, paved_of, pervious_of, plane_of}
+use Rattle.rain_gages.specs.Intensity.{rate_of}
+use Rattle.runoff.specs.RunoffStep.{IsSubStateUpTo, bare_step_of, paved_step_of, pervious_step_of, soaked_of, start_of_sub, sub_state_after, sub_step_of}
+use Rattle.runoff.specs.Subareas.{bare_of, infil_or, paved_of, pervious_of, plane_of}
 use Rattle.runoff.specs.declared.states.SubState.{SubState}
 use Rattle.runoff.specs.declared.states.SubStep.{SubStep}
 use Rattle.runoff_states.specs.RunoffAccount.{IsClosed}
-use Rattle.runoff_states.specs.RunoffStates.{HasInfiltrations, rate_on, runoff_state, runoff_step, start_state, sub_at}
+use Rattle.runoff_states.specs.RunoffStates.{rate_on, runoff_state, runoff_step, sub_at}
+use Rattle.hotstart.specs.declared.state.HotState.{HotState}
+use Rattle.run_engine.specs.Hot.{IsHotFor}
+use Rattle.run_engine.specs.Laterals.{runoff_from, runoff_start}
+use Rattle.run_engine.proofs.HotLemmas.{hot_opened}
 use Rattle.runoff_states.proofs.BalanceLemmas.{step_closed}
-use Rattle.summaries.specs.Runoffs.{HaveSmallSums, Runoffs, no_runoff, runoff_of, summary_at, volumes_at}
+use Rattle.summaries.specs.Runoffs.{HaveSmallSums, Runoffs, runoff_of, summary_at, volumes_at}
 use Rattle.summaries.specs.declared.sub_summary.SubSummary.{SubSummary}
 use Rattle.run_engine.specs.Kept.{AreRunoffsOf}
 use Rattle.run_engine.specs.Results.{runoff_after, runoff_steps}
 use Rattle.run_engine.proofs.RunoffLemmas.{run_soil, run_wet}
 use Rattle.run_engine.proofs.SoilLemmas.{MovesLittle, bare_cover, bare_within, paved_cover, paved_within, pervious_cover, pervious_within, plane_in, subarea_moves, taken_between}
+use Rattle.run_engine.specs.declared.start.Start.{Start}
 
 -- ---- a state: depths that aren't negative, and an infiltration of some range
 pub record IsWet (sub : Sub) (s : SubState) : Type 0 where
@@ -129,9 +133,38 @@ start_wet sub soil = record {
   infil = start_in (infil_or sub.infil) soil;
 }
 
-start_dry : (sub : Sub) → water (start_of_sub sub) ≡ 0
+-- those of a hotstart
+kept_wet : (sub : Sub) (s : SubState) → IsSubStateUpTo (pos (10 ^ 15)) sub s → IsWet sub s
+kept_wet sub s h = record {
+  pervious = h.depths.pervious.from;
+  bare = h.depths.bare.from;
+  paved = h.depths.paved.from;
+  most = pos (10 ^ 15);
+  infil = h.infil;
+}
+
+-- it holds little water
+start_little : (sub : Sub) → water (start_of_sub sub) ≤ 3 * 10 ^ 15
 unfolding start_of_sub
-start_dry sub = refl
+start_little sub = omega arith
+
+kept_little : (sub : Sub) (s : SubState) → IsSubStateUpTo (pos (10 ^ 15)) sub s → water s ≤ 3 * 10 ^ 15
+kept_little sub s h =
+    let a = h.depths.pervious in
+    let b = h.depths.bare in
+    let c = h.depths.paved in
+    omega (arith, ints, a.from, a.to, b.from, b.to, c.from, c.to)
+
+record IsFirst (sub : Sub) (s : SubState) : Type 0 where
+  wet : IsWet sub s
+  little : water s ≤ 3 * 10 ^ 15
+
+first_of : (project : Project) (hot : Option HotState) → IsFaultless project → IfSome hot (IsHotFor project) → (k : ℕ) → k < length project.subs
+    → IsInfil (infil_or (sub_at project.subs k).infil) → IsFirst (sub_at project.subs k) (runoff_from project hot k)
+first_of project None r g k inside soil = record { wet = start_wet (sub_at project.subs k) soil; little = start_little (sub_at project.subs k) }
+first_of project (Some hot) r g k inside soil =
+    let opened = hot_opened project hot r g k inside in
+    record { wet = kept_wet (sub_at project.subs k) _ opened; little = kept_little (sub_at project.subs k) _ opened }
 
 -- ---- over the steps of a run, on subcatchment k
 rate_in : (project : Project) (moment : ℤ) (k : ℕ) → IsRate (rate_on project moment k)
@@ -140,7 +173,7 @@ rate_in project moment k = between_cut _ (omega (arith, ints))
 
 pub record SumsMove (steps : ℕ) (s : SubState) (rain infil runoff stored : ℤ) : Type 0 where
   pub rain_in : unsigned_abs rain ≤ 10 ^ 21 * steps
-  pub moved : unsigned_abs infil + unsigned_abs runoff + 30_000_000_000 * water s ≤ 10 ^ 21 * steps
+  pub moved : unsigned_abs infil + unsigned_abs runoff + 30_000_000_000 * water s ≤ 10 ^ 26 + 10 ^ 21 * steps
   pub closed : unsigned_abs (rain -ℤ infil -ℤ runoff -ℤ stored) ≤ 6 * steps
 
 next_sums : (n : ℕ) (before after : SubState) (step : SubStep) (rain infil runoff stored : ℤ) → SumsMove n before rain infil runoff stored → StepMoves before after step
@@ -151,25 +184,25 @@ next_sums n before after step rain infil runoff stored sums moves = record {
   closed = omega (arith, ints, sums.closed, moves.closed.within);
 }
 
-module _ (project : Project) (r : IsFaultless project) (k : ℕ) (inside : k < length project.subs) where
-  range_k : SubInRange (sub_at project.subs k)
-  range_k = All-get_or SubInRange project.subs k _ inside r.sound.ranges.subs
+module _ (start : Start) (r : IsFaultless start.project) (g : IfSome start.hot (IsHotFor start.project)) (k : ℕ) (inside : k < length start.project.subs) where
+  range_k : SubInRange (sub_at start.project.subs k)
+  range_k = All-get_or SubInRange start.project.subs k _ inside r.sound.ranges.subs
 
-  soil_k : IsInfil (infil_or (sub_at project.subs k).infil)
-  soil_k = All-get_or (λ (s : Sub). IsInfil (infil_or s.infil)) project.subs k _ inside (run_soil project r)
+  soil_k : IsInfil (infil_or (sub_at start.project.subs k).infil)
+  soil_k = All-get_or (λ (s : Sub). IsInfil (infil_or s.infil)) start.project.subs k _ inside (run_soil start.project r)
 
-  wet_k : (n : ℕ) → IsWet (sub_at project.subs k) (runoff_state project (start_state project) n k)
-  wet_k zero = start_wet (sub_at project.subs k) soil_k
-  wet_k (suc n) = state_wet (sub_at project.subs k) range_k soil_k (runoff_state project (start_state project) n k) (wet_k n) (rate_on project _ k) project.options.wet_ms (rate_in project _ k) (run_wet project r)
+  wet_k : (n : ℕ) → IsWet (sub_at start.project.subs k) (runoff_state start.project (runoff_start start) n k)
+  wet_k zero = (first_of start.project start.hot r g k inside soil_k).wet
+  wet_k (suc n) = state_wet (sub_at start.project.subs k) range_k soil_k (runoff_state start.project (runoff_start start) n k) (wet_k n) (rate_on start.project _ k) start.project.options.wet_ms (rate_in start.project _ k) (run_wet start.project r)
 
-  moves_k : (n : ℕ) → StepMoves (runoff_state project (start_state project) n k) (runoff_state project (start_state project) (suc n) k) (runoff_step project (start_state project) n k)
-  moves_k n = step_moves (sub_at project.subs k) range_k soil_k (runoff_state project (start_state project) n k) (wet_k n) (rate_on project _ k) project.options.wet_ms (rate_in project _ k) (run_wet project r)
+  moves_k : (n : ℕ) → StepMoves (runoff_state start.project (runoff_start start) n k) (runoff_state start.project (runoff_start start) (suc n) k) (runoff_step start.project (runoff_start start) n k)
+  moves_k n = step_moves (sub_at start.project.subs k) range_k soil_k (runoff_state start.project (runoff_start start) n k) (wet_k n) (rate_on start.project _ k) start.project.options.wet_ms (rate_in start.project _ k) (run_wet start.project r)
 
-  sums_k : (n : ℕ) → SumsMove n (runoff_state project (start_state project) n k)
-      (sum_below (λ j. (runoff_step project (start_state project) j k).rain) n) (sum_below (λ j. (runoff_step project (start_state project) j k).infil) n)
-      (sum_below (λ j. (runoff_step project (start_state project) j k).runoff) n) (sum_below (λ j. (runoff_step project (start_state project) j k).stored) n)
-  sums_k zero = record { rain_in = omega (arith, ints); moved = omega (arith, ints, start_dry (sub_at project.subs k)); closed = omega (arith, ints) }
-  sums_k (suc n) = next_sums n _ _ (runoff_step project (start_state project) n k) _ _ _ _ (sums_k n) (moves_k n)
+  sums_k : (n : ℕ) → SumsMove n (runoff_state start.project (runoff_start start) n k)
+      (sum_below (λ j. (runoff_step start.project (runoff_start start) j k).rain) n) (sum_below (λ j. (runoff_step start.project (runoff_start start) j k).infil) n)
+      (sum_below (λ j. (runoff_step start.project (runoff_start start) j k).runoff) n) (sum_below (λ j. (runoff_step start.project (runoff_start start) j k).stored) n)
+  sums_k zero = record { rain_in = omega (arith, ints); moved = omega (arith, ints, (first_of start.project start.hot r g k inside soil_k).little); closed = omega (arith, ints) }
+  sums_k (suc n) = next_sums n _ _ (runoff_step start.project (runoff_start start) n k) _ _ _ _ (sums_k n) (moves_k n)
 
 -- ---- the summaries
 record IsSmall (s : SubSummary) : Type 0 where
@@ -187,15 +220,15 @@ small_by n s rain infil runoff stored peak few m = record {
   stored = omega (arith, ints, few, m.rain_in, m.moved, m.closed);
 }
 
-told : (project : Project) (k j : ℕ) → k < length project.subs → runoff_step project (start_state project) j k ≡ volumes_at (runoff_steps project j) k
-told project k j inside = sym (get_or-map-range_with_len (runoff_step project (start_state project) j) 0 (length project.subs) k k _ inside (omega arith))
+told : (start : Start) (k j : ℕ) → k < length start.project.subs → runoff_step start.project (runoff_start start) j k ≡ volumes_at (runoff_steps start j) k
+told start k j inside = sym (get_or-map-range_with_len (runoff_step start.project (runoff_start start) j) 0 (length start.project.subs) k k _ inside (omega arith))
 
-summary_small : (project : Project) → IsFaultless project → (n k : ℕ) → n ≤ 316_224_000 → k < length project.subs → IsSmall (runoff_of (runoff_steps project) (runoff_after project) n k)
+summary_small : (start : Start) → IsFaultless start.project → IfSome start.hot (IsHotFor start.project) → (n k : ℕ) → n ≤ 316_224_000 → k < length start.project.subs → IsSmall (runoff_of (runoff_steps start) (runoff_after start) n k)
 unfolding runoff_of
-summary_small project r n k few inside =
-    let same = λ (of : SubStep → ℤ). sum_same (λ j. of (runoff_step project (start_state project) j k)) (λ j. of (volumes_at (runoff_steps project j) k)) n (λ j h. ap of (told project k j inside)) in
-    small_by n (runoff_state project (start_state project) n k) _ _ _ _ _ few
-    (rw (← same (λ (v : SubStep). v.rain), ← same (λ (v : SubStep). v.infil), ← same (λ (v : SubStep). v.runoff), ← same (λ (v : SubStep). v.stored)) (sums_k project r k inside n))
+summary_small start r g n k few inside =
+    let same = λ (of : SubStep → ℤ). sum_same (λ j. of (runoff_step start.project (runoff_start start) j k)) (λ j. of (volumes_at (runoff_steps start j) k)) n (λ j h. ap of (told start k j inside)) in
+    small_by n (runoff_state start.project (runoff_start start) n k) _ _ _ _ _ few
+    (rw (← same (λ (v : SubStep). v.rain), ← same (λ (v : SubStep). v.infil), ← same (λ (v : SubStep). v.runoff), ← same (λ (v : SubStep). v.stored)) (sums_k start r g k inside n))
 
 -- the sum of small numbers, each without its sign
 sum_small : (of : SubSummary → ℤ) (subs : List SubSummary) → ((k : ℕ) → k < length subs → unsigned_abs (of (summary_at subs k)) ≤ 10 ^ 32)
@@ -206,10 +239,10 @@ sum_small of (s ∷ subs) each =
     let others = sum_small of subs (λ k h. each (suc k) (omega (arith, h))) in
     omega (arith, ints, first, others)
 
-pub sums_small : {project : Project} {n : ℕ} {runoffs : Runoffs} → IsFaultless project → n ≤ 316_224_000 → AreRunoffsOf project n runoffs → HaveSmallSums runoffs.subs
-sums_small {project} {n} {runoffs} r few are =
+pub sums_small : {start : Start} {n : ℕ} {runoffs : Runoffs} → IsFaultless start.project → IfSome start.hot (IsHotFor start.project) → n ≤ 316_224_000 → AreRunoffsOf start n runoffs → HaveSmallSums runoffs.subs
+sums_small {start} {n} {runoffs} r g few are =
     let each = λ (k : ℕ) (h : k < length runoffs.subs).
-    subst IsSmall (sym (are.summaries.each k h)) (summary_small project r runoffs.steps k (omega (arith, few, are.steps_are)) (omega (arith, h, are.places))) in
+    subst IsSmall (sym (are.summaries.each k h)) (summary_small start r g runoffs.steps k (omega (arith, few, are.steps_are)) (omega (arith, h, are.places))) in
     let count : length runoffs.subs ≤ 20_000 = omega (arith, are.places, r.sound.few.subs) in
     record {
       rain = most (λ (s : SubSummary). s.rain) runoffs.subs count (λ k h. (each k h).rain);

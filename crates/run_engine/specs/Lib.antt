@@ -8,4 +8,5 @@ pub mod Results
 pub mod StepLines
 pub mod Report
 pub mod Progress
+pub mod Hot
 pub mod Kept

@@ -16,11 +16,12 @@ use Rattle.run_engine.specs.Results.{counts_after, link_summaries, node_summarie
 use Rattle.run_engine.specs.Results.{total_after, total_runoff}
 use Rattle.run_engine.specs.States.{steps_of}
 use Rattle.run_engine.specs.StepLines.{last_line, lines_until}
+use Rattle.run_engine.specs.declared.start.Start.{Start}
 
 -- what stands before the figures: the head, and the step lines of the first k steps, of which the last state has one in
 -- any case
-unfoldable pub front_after : Project → (k : ℕ) → List ℕ
-front_after project k = head_of project ++ (steps_heading ++ (lines_until project k ++ last_line project k))
+unfoldable pub front_after : Start → (k : ℕ) → List ℕ
+front_after start k = head_of start.project ++ (steps_heading ++ (lines_until start k ++ last_line start k))
 
 -- figures: volumes, depths, floods, outfalls, flows, subcatchments, runoff and counts
 abbrev pub tail_with : Project → StepAccount → List NodeSummary → List OutfallSummary → List LinkSummary
@@ -36,11 +37,11 @@ tail_with project total nodes outfalls links subs counts =
     ++ (runoff_section (total_runoff subs) ++ steps_section counts))))))
 
 -- the figures that the first k steps come to
-unfoldable pub tail_after : Project → (k : ℕ) → List ℕ
-tail_after project k =
-    tail_with project (total_after project k) (node_summaries project k) (outfall_summaries project k)
-    (link_summaries project k) (sub_summaries project k) (counts_after project k)
+unfoldable pub tail_after : Start → (k : ℕ) → List ℕ
+tail_after start k =
+    tail_with start.project (total_after start k) (node_summaries start k) (outfall_summaries start k)
+    (link_summaries start k) (sub_summaries start k) (counts_after start k)
 
--- the text of the report of a project's run
-unfoldable pub report_of : Project → List ℕ
-report_of project = front_after project (steps_of project) ++ tail_after project (steps_of project)
+-- the text of the report of a run
+unfoldable pub report_of : Start → List ℕ
+report_of start = front_after start (steps_of start) ++ tail_after start (steps_of start)

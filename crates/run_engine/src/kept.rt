@@ -1,9 +1,9 @@
 // What a run keeps between two steps.
 use crate::settings::SettingRoom;
+use crate::subs::SubRunoff;
 use continuity::RunAccount;
 use net_types::List;
 use report_writer::RunCounts;
-use runoff_states::Runoff;
 use summaries::{OutfallSums, SubSums, Summaries};
 use trial_model::Nets;
 
@@ -15,7 +15,7 @@ pub(crate) struct Kept {
     pub(crate) moment: i64,
     pub(crate) nets: Nets,
     pub(crate) before: Nets,
-    pub(crate) runoff: Runoff,
+    pub(crate) runoff: SubRunoff,
     pub(crate) laterals: List<i128>,
     pub(crate) room: SettingRoom,
     pub(crate) floods: List<i128>,

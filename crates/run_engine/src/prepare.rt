@@ -12,8 +12,8 @@ ghost use Rattle.run_engine.specs.Settings.{settings_in};
 ghost use Rattle.run_engine.specs.States.{link_start, node_start, prepared, project_law};
 
 use crate::opening::lateral_here;
+use crate::start::Start;
 use link_eval::HydraulicLaw;
-use net_types::Project;
 use phase_law::{LinkFixed, NodeFixed, PhaseLaw};
 use time_series::node_stage;
 use trial_model::Nets;
@@ -22,7 +22,7 @@ use trial_model::Nets;
 // heads and net inflows of the state stay the same over the trials, beside the settings of the links, and the lateral
 // inflows and stages at the step's end.
 pub(crate) fn prepare(
-    project: &Project,
+    start: &Start,
     law: &HydraulicLaw,
     finish: i64,
     dt: i64,
@@ -30,15 +30,15 @@ pub(crate) fn prepare(
     settings: &[i64],
     nets: &mut Nets,
 )
-    requires project { IsFaultless project.now }
-    requires law { law.now.hydraulics ≡ hydraulics_of project.now }
-    requires fits { Fits (project_law project.now) nets.old }
-    requires finish { IsRunMoment project.now finish }
+    requires project { IsFaultless start.now.project }
+    requires law { law.now.hydraulics ≡ hydraulics_of start.now.project }
+    requires fits { Fits (project_law start.now.project) nets.old }
+    requires finish { IsRunMoment start.now.project finish }
     requires dt { IsStepLength dt }
-    requires laterals { laterals.now ≡ laterals_at project.now finish }
-    requires settings { settings.now ≡ settings_in project.now (finish -ℤ dt) nets.old }
-    ensures nets { nets.new ≡ prepared project.now finish dt nets.old }
-    ensures fits { Fits (project_law project.now) nets.new }
+    requires laterals { laterals.now ≡ laterals_at start.now finish }
+    requires settings { settings.now ≡ settings_in start.now.project (finish -ℤ dt) nets.old }
+    ensures nets { nets.new ≡ prepared start.now finish dt nets.old }
+    ensures fits { Fits (project_law start.now.project) nets.new }
 {
     let heads = nets.heads.as_slice();
     let flows = nets.flows.as_slice();
@@ -47,7 +47,7 @@ pub(crate) fn prepare(
     let links = nets.links.as_mut_slice();
     prepare_links(law, dt, heads, flows, settings, links);
     prepare_nodes(
-        project,
+        start,
         finish,
         dt,
         laterals,
@@ -115,7 +115,7 @@ fn middle_area(law: &HydraulicLaw, link: u32, heads: &[i64]) -> i64
 
 // Sets what stays the same for every node over a step that finishes at this moment and has this length.
 fn prepare_nodes(
-    project: &Project,
+    start: &Start,
     finish: i64,
     dt: i64,
     laterals: &[i128],
@@ -124,27 +124,27 @@ fn prepare_nodes(
     outflows: &[i64],
     nodes: &mut [NodeFixed],
 )
-    requires project { IsFaultless project.now }
-    requires finish { IsRunMoment project.now finish }
-    requires laterals { laterals.now ≡ laterals_at project.now finish }
-    requires heads { length heads.now ≡ length project.now.nodes }
-    requires inflows { AreAmounts (length project.now.nodes) inflows.now }
-    requires outflows { AreAmounts (length project.now.nodes) outflows.now }
-    requires nodes { HaveLaterals (length project.now.nodes) nodes.old }
+    requires project { IsFaultless start.now.project }
+    requires finish { IsRunMoment start.now.project finish }
+    requires laterals { laterals.now ≡ laterals_at start.now finish }
+    requires heads { length heads.now ≡ length start.now.project.nodes }
+    requires inflows { AreAmounts (length start.now.project.nodes) inflows.now }
+    requires outflows { AreAmounts (length start.now.project.nodes) outflows.now }
+    requires nodes { HaveLaterals (length start.now.project.nodes) nodes.old }
     ensures { nodes.new ≡ list_of
-        (node_start project.now heads.now inflows.now outflows.now nodes.old finish dt) (length project.now.nodes) }
+        (node_start start.now heads.now inflows.now outflows.now nodes.old finish dt) (length start.now.project.nodes) }
 {
-    let count = project.nodes.as_slice().len() as u32;
+    let count = start.project.nodes.as_slice().len() as u32;
     for n in 0..count {
         nodes[n as usize] = node_start(
-            project, n, finish, dt, laterals, heads, inflows, outflows, nodes,
+            start, n, finish, dt, laterals, heads, inflows, outflows, nodes,
         );
     }
 }
 
 // What stays the same for a node over a step.
 fn node_start(
-    project: &Project,
+    start: &Start,
     n: u32,
     finish: i64,
     dt: i64,
@@ -154,23 +154,23 @@ fn node_start(
     outflows: &[i64],
     nodes: &[NodeFixed],
 ) -> NodeFixed
-    requires project { IsFaultless project.now }
-    requires n { n < length project.now.nodes }
-    requires finish { IsRunMoment project.now finish }
-    requires laterals { laterals.now ≡ laterals_at project.now finish }
-    requires heads { length heads.now ≡ length project.now.nodes }
-    requires inflows { AreAmounts (length project.now.nodes) inflows.now }
-    requires outflows { AreAmounts (length project.now.nodes) outflows.now }
-    requires nodes { length nodes.now ≡ length project.now.nodes }
+    requires project { IsFaultless start.now.project }
+    requires n { n < length start.now.project.nodes }
+    requires finish { IsRunMoment start.now.project finish }
+    requires laterals { laterals.now ≡ laterals_at start.now finish }
+    requires heads { length heads.now ≡ length start.now.project.nodes }
+    requires inflows { AreAmounts (length start.now.project.nodes) inflows.now }
+    requires outflows { AreAmounts (length start.now.project.nodes) outflows.now }
+    requires nodes { length nodes.now ≡ length start.now.project.nodes }
     requires last { IsFlow (node_fixed_at nodes.now n).lateral }
-    ensures { result ≡ node_start project.now heads.now inflows.now outflows.now nodes.now finish dt n }
+    ensures { result ≡ node_start start.now heads.now inflows.now outflows.now nodes.now finish dt n }
 {
     let place = n as usize;
     NodeFixed {
         h_old: heads[place],
         net_old: nodes[place].lateral + inflows[place] - outflows[place],
         lateral: lateral_here(laterals, n),
-        stage: node_stage(project, n, finish),
+        stage: node_stage(&start.project, n, finish),
         dt,
     }
 }

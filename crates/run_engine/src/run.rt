@@ -1,30 +1,31 @@
 // A run of a project by one worker.
-ghost use Rattle.std.specs.Prelude.{◌≡◌, ◌+◌, ◌++◌, true, false, IfOk, IfErr};
+ghost use Rattle.std.specs.Prelude.{◌≡◌, ◌+◌, ◌++◌, true, false, IfOk, IfErr, IfSome};
 ghost use Rattle.continuity.specs.Account.{Balances};
 ghost use Rattle.fault_ports.specs.Causes.{HasCause};
 ghost use Rattle.fault_ports.specs.Output.{Puts};
+ghost use Rattle.hotstart.specs.HotRanges.{IsHotState};
 ghost use Rattle.project_check.specs.Faultless.{IsFaultless};
+ghost use Rattle.run_engine.specs.Hot.{IsHotFor, last_of};
 ghost use Rattle.run_engine.specs.Progress.{IsAt, IsGoingAt};
 ghost use Rattle.run_engine.specs.Report.{front_after, tail_after};
 ghost use Rattle.run_engine.specs.States.{steps_of};
 ghost use Rattle.run_engine.specs.StepLines.{last_line, lines_until, own_line};
 
-use crate::begin::{open_room, open_summaries, zeros};
+use crate::begin::open_kept;
+use crate::hot::{keep_last, open_last};
 use crate::kept::Kept;
-use crate::laterals::find_laterals;
 use crate::one_step::step_and_line;
-use crate::opening::open_state;
 use crate::output::{put_figures, put_heading, put_last_line};
+use crate::start::Start;
 use crate::times::goes_on;
 use continuity::RunAccount;
 use fault_ports::{Failed, Sink};
+use hotstart::HotState;
 use link_eval::HydraulicLaw;
 use net_types::{OutOfMemory, Project, StepAccount};
 use report_writer::RunCounts;
-use runoff_states::Runoff;
 use std::alloc::Global;
 use std::marker::Model;
-use trial_model::Nets;
 
 /// Why a run stopped before its end.
 #[derive(Clone, Copy, Debug, PartialEq, Eq)]
@@ -35,26 +36,28 @@ pub enum RunFault {
     OutOfMemory,
 }
 
-/// A run of a project: its state, the state before, what its steps and states came to so far, and the account of the
-/// steps since the last step line.
+/// A run: what it began with, its state, the state before, what its steps and states came to so far, the account of the
+/// steps since the last step line, and the state that it keeps for a hotstart.
 #[derive(Debug, Drop)]
 pub struct Run {
-    project: Project,
+    start: Start,
     law: HydraulicLaw,
     kept: Kept,
     since: RunAccount,
+    last: HotState,
 }
 
 impl Model for Run {
     ghost use Rattle.run_engine.specs.Progress.{Progress};
     ghost use Rattle.std.specs.Prelude.{◌+◌};
+    ghost use Rattle.run_engine.specs.Hot.{IsRoomFor};
     ghost use Rattle.run_engine.specs.Kept.{IsKept, IsTotalFrom};
     ghost use Rattle.run_engine.specs.StepLines.{line_before};
 
     ghost Value = { Progress };
 
     ghost view = { λ s. record {
-      project = s.project;
+      start = s.start;
       nets = s.kept.nets;
       total = s.kept.total.total;
       nodes = s.kept.sums.nodes;
@@ -62,53 +65,34 @@ impl Model for Run {
       outfalls = s.kept.outfalls.outfalls;
       subs = s.kept.subs.subs;
       counts = s.kept.counts;
+      last = s.last;
     } };
 
-    ghost invariant = { λ s. IsKept s.project s.law.hydraulics s.kept
-        × IsTotalFrom s.project (line_before s.project (s.kept.counts.steps + 1)) s.kept.counts.steps s.since };
+    ghost invariant = { λ s. IsKept s.start s.law.hydraulics s.kept
+        × IsTotalFrom s.start (line_before s.start (s.kept.counts.steps + 1)) s.kept.counts.steps s.since
+        × IsRoomFor s.start.project s.last };
 }
 
-/// Opens the run of a project at its first state. The only error is want of memory.
+/// Opens the run of a project at its first state, which is that of a hotstart where one is given. The only error is
+/// want of memory.
 ///
-/// Source: this project's profile.
-pub fn open_run(alloc: Global, project: Project) -> Result<Run, OutOfMemory>
-    requires { IsFaultless project }
-    ensures { IfOk result (λ run. (run.project ≡ project) × IsAt run 0) }
+/// The hotstart is one of this project. Its heads at junctions and storages are brought into invert to top, and the
+/// states of its subcatchments into the ranges of their infiltration. Source: this project's profile.
+pub fn open_run(alloc: Global, project: Project, hot: Option<HotState>) -> Result<Run, OutOfMemory>
+    requires project { IsFaultless project }
+    requires hot { IfSome hot (IsHotFor project) }
+    ensures { IfOk result (λ run. (run.start ≡ record { project = project; hot = hot }) × IsAt run 0) }
 {
-    let law = HydraulicLaw::build(alloc, &project)?;
-    let nodes = project.nodes.as_slice().len() as u32;
-    let links = project.links.as_slice().len() as u32;
-    let runoff = Runoff::open(alloc, &project)?;
-    let mut laterals = zeros(alloc, nodes)?;
-    find_laterals(&project, 0, &runoff, laterals.as_mut_slice());
-    let nets = open_state(alloc, &project, &law, laterals.as_slice())?;
-    let before = Nets::with_room(alloc, nodes, links)?;
-    let room = open_room(alloc, nodes, links)?;
-    let floods = zeros(alloc, nodes)?;
-    let opened = open_summaries(alloc, &project, &nets, &floods)?;
-    let kept = Kept {
-        moment: 0,
-        nets,
-        before,
-        runoff,
-        laterals,
-        room,
-        floods,
-        sums: opened.sums,
-        outfalls: opened.outfalls,
-        subs: opened.subs,
-        total: RunAccount::new(),
-        counts: RunCounts {
-            steps: 0,
-            trials: 0,
-            unsettled: 0,
-        },
-    };
+    let start = Start { project, hot };
+    let law = HydraulicLaw::build(alloc, &start.project)?;
+    let last = open_last(alloc, &start.project)?;
+    let kept = open_kept(alloc, &start, &law)?;
     Ok(Run {
-        project,
+        start,
         law,
         kept,
         since: RunAccount::new(),
+        last,
     })
 }
 
@@ -121,31 +105,57 @@ impl Run {
     pub fn advance_alone<W: Sink>(&mut self, rpt: &mut W) -> Result<(), RunFault>
         requires { IsAt self.old 0 }
         ensures bytes { Puts (W.held rpt.old) (W.held rpt.new)
-            (front_after self.old.project (steps_of self.old.project)) result }
+            (front_after self.old.start (steps_of self.old.start)) result }
         ensures cause { HasCause (W.faults rpt.old) (W.faults rpt.new) result }
         ensures fault { IfErr result (λ fault. fault ≡ RunFault.Write) }
-        ensures project { self.new.project ≡ self.old.project }
-        ensures at { IfOk result (λ _. IsAt self.new (steps_of self.new.project)) }
+        ensures start { self.new.start ≡ self.old.start }
+        ensures at { IfOk result (λ _. IsAt self.new (steps_of self.new.start)) }
+        ensures last { IfOk result (λ _. self.new.last ≡ last_of self.new.start) }
+        ensures written { IfOk result (λ _. IsHotState self.new.last) }
     {
         match self.put_front(rpt) {
-            Ok(()) => Ok(()),
+            Ok(()) => {
+                self.keep_state();
+                Ok(())
+            }
             Err(Failed) => Err(RunFault::Write),
         }
+    }
+
+    // Keeps the last state for a hotstart, once all steps are made.
+    fn keep_state(&mut self)
+        requires { IsAt self.old (steps_of self.old.start) }
+        ensures start { self.new.start ≡ self.old.start }
+        ensures at { IsAt self.new (steps_of self.new.start) }
+        ensures last { self.new.last ≡ last_of self.new.start }
+        ensures written { IsHotState self.new.last }
+    {
+        keep_last(&self.start, &self.kept, &mut self.last);
+    }
+
+    /// The state that the run keeps for a hotstart: the last one, once all steps are made. [`hotstart::write_hot`]
+    /// takes it. No memory is taken.
+    ///
+    /// Source: this project's profile.
+    pub fn hot_state(&self) -> &HotState
+        ensures { result.now ≡ self.now.last }
+    {
+        &self.last
     }
 
     /// Puts the rest of the report of the run, the figures, once all its steps are made.
     ///
     /// Source: this project's profile.
     pub fn finish<W: Sink>(&self, rpt: &mut W) -> Result<(), Failed>
-        requires { IsAt self.now (steps_of self.now.project) }
+        requires { IsAt self.now (steps_of self.now.start) }
         ensures bytes { Puts (W.held rpt.old) (W.held rpt.new)
-            (tail_after self.now.project (steps_of self.now.project)) result }
+            (tail_after self.now.start (steps_of self.now.start)) result }
         ensures cause { HasCause (W.faults rpt.old) (W.faults rpt.new) result }
     {
         let total = self.kept.total.total();
         put_figures(
             rpt,
-            &self.project,
+            &self.start.project,
             &total,
             &self.kept.sums,
             &self.kept.outfalls,
@@ -181,22 +191,23 @@ impl Run {
     // Whether there is a step left.
     fn goes_on(&self) -> bool
         ensures at { IsAt self.now self.now.counts.steps }
-        ensures more { result ≡ true → IsGoingAt self.now.project self.now.counts.steps }
-        ensures last { result ≡ false → self.now.counts.steps ≡ steps_of self.now.project }
+        ensures more { result ≡ true → IsGoingAt self.now.start self.now.counts.steps }
+        ensures last { result ≡ false → self.now.counts.steps ≡ steps_of self.now.start }
     {
-        self.kept.counts.steps < 50_000_000 && goes_on(&self.project.options, self.kept.moment)
+        self.kept.counts.steps < 50_000_000
+            && goes_on(&self.start.project.options, self.kept.moment)
     }
 
     // Puts the head and the heading, makes all steps, and puts their lines.
     fn put_front<W: Sink>(&mut self, rpt: &mut W) -> Result<(), Failed>
         requires { IsAt self.old 0 }
         ensures bytes { Puts (W.held rpt.old) (W.held rpt.new)
-            (front_after self.old.project (steps_of self.old.project)) result }
+            (front_after self.old.start (steps_of self.old.start)) result }
         ensures cause { HasCause (W.faults rpt.old) (W.faults rpt.new) result }
-        ensures project { self.new.project ≡ self.old.project }
-        ensures at { IfOk result (λ _. IsAt self.new (steps_of self.new.project)) }
+        ensures start { self.new.start ≡ self.old.start }
+        ensures at { IfOk result (λ _. IsAt self.new (steps_of self.new.start)) }
     {
-        match put_heading(rpt, &self.project) {
+        match put_heading(rpt, &self.start.project) {
             Ok(()) => self.put_lines(rpt),
             Err(failed) => Err(failed),
         }
@@ -205,11 +216,11 @@ impl Run {
     // Makes all steps, and puts the line of each state that has one, and of the last state.
     fn put_lines<W: Sink>(&mut self, rpt: &mut W) -> Result<(), Failed>
         requires { IsAt self.old 0 }
-        ensures bytes { Puts (W.held rpt.old) (W.held rpt.new) (lines_until self.old.project (steps_of self.old.project)
-            ++ last_line self.old.project (steps_of self.old.project)) result }
+        ensures bytes { Puts (W.held rpt.old) (W.held rpt.new) (lines_until self.old.start (steps_of self.old.start)
+            ++ last_line self.old.start (steps_of self.old.start)) result }
         ensures cause { HasCause (W.faults rpt.old) (W.faults rpt.new) result }
-        ensures project { self.new.project ≡ self.old.project }
-        ensures at { IfOk result (λ _. IsAt self.new (steps_of self.new.project)) }
+        ensures start { self.new.start ≡ self.old.start }
+        ensures at { IfOk result (λ _. IsAt self.new (steps_of self.new.start)) }
     {
         match self.put_steps(rpt) {
             Ok(()) => self.put_last(rpt),
@@ -221,10 +232,10 @@ impl Run {
     fn put_steps<W: Sink>(&mut self, rpt: &mut W) -> Result<(), Failed>
         requires { IsAt self.old 0 }
         ensures bytes { Puts (W.held rpt.old) (W.held rpt.new)
-            (lines_until self.old.project (steps_of self.old.project)) result }
+            (lines_until self.old.start (steps_of self.old.start)) result }
         ensures cause { HasCause (W.faults rpt.old) (W.faults rpt.new) result }
-        ensures project { self.new.project ≡ self.old.project }
-        ensures at { IfOk result (λ _. IsAt self.new (steps_of self.new.project)) }
+        ensures start { self.new.start ≡ self.old.start }
+        ensures at { IfOk result (λ _. IsAt self.new (steps_of self.new.start)) }
     {
         while self.goes_on() {
             match self.add_step(rpt) {
@@ -237,9 +248,9 @@ impl Run {
 
     // Puts the line of the last state, where it has none of its own.
     fn put_last<W: Sink>(&self, rpt: &mut W) -> Result<(), Failed>
-        requires { IsAt self.now (steps_of self.now.project) }
+        requires { IsAt self.now (steps_of self.now.start) }
         ensures bytes { Puts (W.held rpt.old) (W.held rpt.new)
-            (last_line self.now.project (steps_of self.now.project)) result }
+            (last_line self.now.start (steps_of self.now.start)) result }
         ensures cause { HasCause (W.faults rpt.old) (W.faults rpt.new) result }
     {
         put_last_line(rpt, self.kept.moment, &self.since)
@@ -247,20 +258,14 @@ impl Run {
 
     // Makes one step more, and puts the line of its state where it has one.
     fn add_step<W: Sink>(&mut self, rpt: &mut W) -> Result<(), Failed>
-        requires { IsGoingAt self.old.project self.old.counts.steps }
+        requires { IsGoingAt self.old.start self.old.counts.steps }
         ensures bytes { Puts (W.held rpt.old) (W.held rpt.new)
-            (own_line self.old.project (self.old.counts.steps + 1)) result }
+            (own_line self.old.start (self.old.counts.steps + 1)) result }
         ensures cause { HasCause (W.faults rpt.old) (W.faults rpt.new) result }
-        ensures project { self.new.project ≡ self.old.project }
+        ensures start { self.new.start ≡ self.old.start }
         ensures steps { self.new.counts.steps ≡ self.old.counts.steps + 1 }
         ensures at { IsAt self.new self.new.counts.steps }
     {
-        step_and_line(
-            &self.project,
-            &self.law,
-            &mut self.kept,
-            &mut self.since,
-            rpt,
-        )
+        step_and_line(&self.start, &self.law, &mut self.kept, &mut self.since, rpt)
     }
 }

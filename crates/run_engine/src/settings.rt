@@ -1,6 +1,6 @@
 // The settings of the links over a step.
 ghost use Rattle.std.specs.Prelude.{◌≡◌, ◌<◌, ◌^◌, ◌*◌, length, pos};
-ghost use Rattle.fixed_num.specs.Lists.{list_of, number};
+ghost use Rattle.fixed_num.specs.Lists.{number};
 ghost use Rattle.fixed_num.specs.Ranges.{IsBetween, IsFall, IsFlow, IsPart};
 ghost use Rattle.run_engine.specs.Amounts.{AreAmounts, HaveLaterals};
 ghost use Rattle.project_check.specs.Faultless.{IsFaultless};

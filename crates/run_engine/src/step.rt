@@ -13,14 +13,15 @@ ghost use Rattle.run_engine.specs.Settings.{settings_in};
 ghost use Rattle.run_engine.specs.States.{next_nets, project_law, step_end};
 
 use crate::prepare::prepare;
+use crate::start::Start;
 use link_eval::HydraulicLaw;
-use net_types::{List, Project};
+use net_types::List;
 use trial_model::{Nets, StepEnd, step_alone};
 
 // Makes the step that finishes at this moment and has this length, both in ms, from a state to the next, and keeps the
 // state in `before`.
 pub(crate) fn make_step(
-    project: &Project,
+    start: &Start,
     law: &HydraulicLaw,
     finish: i64,
     dt: i64,
@@ -29,28 +30,28 @@ pub(crate) fn make_step(
     before: &mut Nets,
     nets: &mut Nets,
 ) -> StepEnd
-    requires project { IsFaultless project.now }
-    requires law { law.now.hydraulics ≡ hydraulics_of project.now }
-    requires finish { IsRunMoment project.now finish }
+    requires project { IsFaultless start.now.project }
+    requires law { law.now.hydraulics ≡ hydraulics_of start.now.project }
+    requires finish { IsRunMoment start.now.project finish }
     requires dt { IsStepLength dt }
-    requires laterals { laterals.now ≡ laterals_at project.now finish }
-    requires settings { settings.now ≡ settings_in project.now (finish -ℤ dt) nets.old }
-    requires room { Fits (project_law project.now) before.old }
-    requires fits { Fits (project_law project.now) nets.old }
-    requires tops { IsBelowTops (hydraulics_of project.now) nets.old }
+    requires laterals { laterals.now ≡ laterals_at start.now finish }
+    requires settings { settings.now ≡ settings_in start.now.project (finish -ℤ dt) nets.old }
+    requires room { Fits (project_law start.now.project) before.old }
+    requires fits { Fits (project_law start.now.project) nets.old }
+    requires tops { IsBelowTops (hydraulics_of start.now.project) nets.old }
     ensures before { before.new ≡ nets.old }
-    ensures nets { nets.new ≡ next_nets project.now finish dt nets.old }
-    ensures end { result ≡ step_end project.now finish dt nets.old }
+    ensures nets { nets.new ≡ next_nets start.now finish dt nets.old }
+    ensures end { result ≡ step_end start.now finish dt nets.old }
 
     // What holds of the end and of the next state.
     ensures few { result.trials ≤ 20 }
-    ensures fits { Fits (project_law project.now) nets.new }
-    ensures sums { SumsOf (project_law project.now) nets.new }
-    ensures tops { IsBelowTops (hydraulics_of project.now) nets.new }
+    ensures fits { Fits (project_law start.now.project) nets.new }
+    ensures sums { SumsOf (project_law start.now.project) nets.new }
+    ensures tops { IsBelowTops (hydraulics_of start.now.project) nets.new }
 {
     keep(nets, before);
-    prepare(project, law, finish, dt, laterals, settings, nets);
-    step_alone(law, nets, project.options.max_trials)
+    prepare(start, law, finish, dt, laterals, settings, nets);
+    step_alone(law, nets, start.project.options.max_trials)
 }
 
 // Copies a state over another of the same network.
@@ -70,7 +71,7 @@ fn keep(nets: &Nets, before: &mut Nets)
 }
 
 // Copies all items of a list over another of the same length.
-fn copy<T: Copy>(from: &List<T>, to: &mut List<T>)
+pub(crate) fn copy<T: Copy>(from: &List<T>, to: &mut List<T>)
     requires { length to.old ≡ length from.now }
     ensures { to.new ≡ from.now }
 {

@@ -4,4 +4,3 @@ pub mod RunLemmas
 pub mod NodeLemmas
 pub mod TimeLemmas
 pub mod OpenLemmas
-pub mod KeptLemmas

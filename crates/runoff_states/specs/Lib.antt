@@ -1,4 +1,3 @@
 pub mod RunoffStates
 pub mod RunoffTimes
 pub mod RunoffAccount
-pub mod Runoff

@@ -4,13 +4,11 @@
 //! moment at which the step begins, so that the states over a run are `runoff_state` of `specs/RunoffStates.antt`:
 //! those of [`start_states`] or [`open_states`], and then step after step what each becomes. What runs off to a node
 //! is held between the steps ([`steps_done`], [`add_runoff`], `specs/RunoffTimes.antt`), and what became of the rain of
-//! a step is its [`account`](step_account) (`specs/RunoffAccount.antt`). A run keeps all this in one [`Runoff`]
-//! (`specs/Runoff.antt`). No step takes memory.
+//! a step is its [`account`](step_account) (`specs/RunoffAccount.antt`). No step takes memory.
 #![tactic(auto, using(fixed_num::proofs::Bounds::casts))]
 
 mod account;
 mod all;
-mod kept;
 mod laws;
 mod nodes;
 mod opening;
@@ -20,7 +18,6 @@ mod times;
 
 pub use account::{RunoffAccount, step_account};
 pub use all::step_all;
-pub use kept::Runoff;
 pub use laws::{runoff_is_held, runoff_loses_no_water};
 pub use nodes::add_runoff;
 pub use opening::{open_states, start_states};

@@ -1,7 +1,9 @@
 // The ports of a command over the files that its words name.
-ghost use Rattle.std.specs.Prelude.{◌≡◌, IfOk};
+ghost use Rattle.std.specs.Prelude.{◌≡◌, false, IfOk};
+ghost use Rattle.command_words.specs.CommandWords.{command_of};
 ghost use Rattle.swmm5_fx.specs.Ports.{name_or_none, unopened};
 ghost use Rattle.swmm_top.specs.Answers.{HasCauses};
+ghost use Rattle.swmm_top.specs.Uses.{keeps_hotstart, reads_hotstart, reads_input};
 
 use fault_ports::{FileSink, FileSource, OpenGate};
 use net_types::{List, OutOfMemory, Text};
@@ -59,7 +61,9 @@ pub(crate) fn command_over<R: AllocGlobal + Files + Threads + Wait + Sync>(
 ) -> Result<Status, TopFault>
     ensures causes { HasCauses ports.old.inp.faults ports.new.inp.faults ports.old.hot_in.faults ports.new.hot_in.faults
         ports.old.rpt.faults ports.new.rpt.faults ports.old.hot_out.faults ports.new.hot_out.faults result }
-    ensures unused { (ports.new.hot_in ≡ ports.old.hot_in) × (ports.new.hot_out ≡ ports.old.hot_out) }
+    ensures input_unused { reads_input (command_of words.now) ≡ false → ports.new.inp ≡ ports.old.inp }
+    ensures hotstart_unused { reads_hotstart (command_of words.now) ≡ false → ports.new.hot_in ≡ ports.old.hot_in }
+    ensures hotstart_unkept { keeps_hotstart (command_of words.now) ≡ false → ports.new.hot_out ≡ ports.old.hot_out }
 {
     swmm_top(
         rt,

@@ -1,3 +1,5 @@
+mod HotLemmas
 mod InputLemmas
+mod LeavesLemmas
 mod OutcomeLemmas
-mod RunLemmas
+mod TopLemmas

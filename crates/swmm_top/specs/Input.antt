@@ -2,9 +2,12 @@
 use Rattle.std.specs.Prelude.{◌≡◌, ℕ, ◌+◌, List, Option, Some, IfSome, take, drop, length}
 use Rattle.std.specs.Io.KnownBytes.{Consumes, IsAtEnd}
 
--- the most bytes that an input may have (this project's profile)
+-- the most bytes that an input and a hotstart may have (this project's profile)
 abbrev pub input_limit : ℕ
 input_limit = 33554432
+
+abbrev pub hot_limit : ℕ
+hot_limit = 2097152
 
 -- the first bytes of what a source tells, `most` or all of them, were taken, and the others are left
 abbrev pub TakesFront : ℕ → Option (List ℕ) → Option (List ℕ) → List ℕ → Type 0

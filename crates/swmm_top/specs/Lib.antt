@@ -1,7 +1,8 @@
 pub mod Answers
-pub mod CommandWords
 pub mod Input
 pub mod Names
 pub mod Outcome
-pub mod Plain
+pub mod Taking
 pub mod TopFaults
+pub mod Uses
+pub mod Work

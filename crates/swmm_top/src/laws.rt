@@ -1,6 +1,6 @@
 // The laws of outcomes.
 ghost use Rattle.std.specs.Prelude.{◌≡◌, List as Sequence, ℕ, Option as Maybe};
-ghost use Rattle.swmm_top.specs.CommandWords.{Command as CommandOf};
+ghost use Rattle.command_words.specs.declared.command.Command.{Command as CommandOf};
 ghost use Rattle.swmm_top.specs.Outcome.{Outcome, IsOutcome};
 
 /// The same words and bytes have one outcome.

@@ -1,11 +1,10 @@
 // The names of a command's files.
 ghost use Rattle.std.specs.Prelude.{◌≡◌, IfOk};
 ghost use Rattle.std.specs.Option.{option_map};
-ghost use Rattle.swmm_top.specs.CommandWords.{command_of};
+ghost use Rattle.command_words.specs.CommandWords.{command_of};
 ghost use Rattle.swmm_top.specs.Names.{names_of};
-ghost use Rattle.swmm_top.specs.Plain.{plain};
 
-use crate::command::{Command, read_words};
+use command_words::{Command, Task, read_words};
 use net_types::{List, OutOfMemory, Text};
 use std::alloc::Global;
 
@@ -22,34 +21,40 @@ pub struct FileNames {
 pub fn file_names(alloc: Global, words: &List<Text>) -> Result<Option<FileNames>, OutOfMemory>
     ensures { IfOk result (λ names. names ≡ option_map names_of (command_of words.now)) }
 {
-    match read_words(words) {
-        Some(command) => names_in(alloc, &command),
-        None => Ok(None),
+    match read_words(alloc, words) {
+        Ok(Some(command)) => Ok(Some(names_in(command))),
+        Ok(None) => Ok(None),
+        Err(fault) => Err(fault),
     }
 }
 
 // The names of this command's files.
-fn names_in(alloc: Global, command: &Command<'_>) -> Result<Option<FileNames>, OutOfMemory>
-    ensures { IfOk result (λ names. names ≡ Some (names_of (plain command.now))) }
+fn names_in(command: Command) -> FileNames
+    ensures { result ≡ names_of command }
 {
-    let inp = copy_of(alloc, command.inp)?;
-    let rpt = Text::from_slice(alloc, command.rpt)?;
-    let hot_in = copy_of(alloc, command.hot_in)?;
-    let hot_out = copy_of(alloc, command.hot_out)?;
-    Ok(Some(FileNames {
-        inp,
-        rpt,
-        hot_in,
-        hot_out,
-    }))
-}
-
-// A copy of a name, where there is one.
-fn copy_of(alloc: Global, name: Option<&[u8]>) -> Result<Option<Text>, OutOfMemory>
-    ensures { IfOk result (λ copy. copy ≡ option_map (λ bytes. bytes.now) name.entry) }
-{
-    match name {
-        Some(bytes) => Ok(Some(Text::from_slice(alloc, bytes)?)),
-        None => Ok(None),
+    let Command { task, rpt, .. } = command;
+    match task {
+        Task::Run {
+            inp,
+            hot_in,
+            hot_out,
+        } => FileNames {
+            inp: Some(inp),
+            rpt,
+            hot_in,
+            hot_out,
+        },
+        Task::Check { inp } => FileNames {
+            inp: Some(inp),
+            rpt,
+            hot_in: None,
+            hot_out: None,
+        },
+        Task::Demo { number: _ } => FileNames {
+            inp: None,
+            rpt,
+            hot_in: None,
+            hot_out: None,
+        },
     }
 }

@@ -1,30 +1,21 @@
 // The commands.
-ghost use Rattle.std.specs.Prelude.{◌≡◌, ◌≢◌, ◌⊎◌, Option, ◌+◌, ◌-◌, ◌^◌, ◌≤◌, ◌↔◌, min, [], None};
-ghost use Rattle.std.specs.Prelude.{Some, Ok, OnOk, OnErr, IfOk, IfErr, IsErrOf, IfSome, drop, take};
-ghost use Rattle.std.specs.Io.KnownBytes.{Appends, Keeps};
+ghost use Rattle.std.specs.Prelude.{◌≡◌, ◌⊎◌, None, Ok, true, false, IsErrOf};
+ghost use Rattle.command_words.specs.CommandWords.{command_of};
 ghost use Rattle.fault_ports.specs.Causes.{no_faults};
-ghost use Rattle.fault_ports.specs.Output.{AppendsPrefix, Puts};
-ghost use Rattle.swmm_top.specs.Answers.{BeforeWriting, EndsReport, FailsOnlyAt, GivesOutcome};
-ghost use Rattle.swmm_top.specs.Answers.{HasCauses, ReadsToEnd, ReportsOutcome};
-ghost use Rattle.swmm_top.specs.CommandWords.{command_of, run_only, check_only};
-ghost use Rattle.swmm_top.specs.Input.{TakesFront, input_limit};
+ghost use Rattle.swmm_top.specs.Answers.{BeforeWriting, GivesOutcome, HasCauses, ReadsHotstart, ReadsInput};
+ghost use Rattle.swmm_top.specs.Uses.{check_only, keeps_hotstart, reads_hotstart, reads_input, run_only};
 
-use crate::command::read_words;
 use crate::fault::{Port, TopFault};
-use crate::input::{ReadFault, read_front};
-use crate::mode::Mode;
-use crate::report::report_input;
 use crate::status::Status;
+use crate::task::{check_input, do_work};
+use crate::work::{read_check, read_run, read_work};
 use fault_ports::{Gate, Sink, Source};
-use net_types::{List, Text};
+use net_types::{List, OutOfMemory, Text};
 use std::alloc::Global;
 use std::sync::Wait;
 use std::thread::Threads;
 
-/// The most bytes that an input may have.
-pub const INPUT_LIMIT: usize = 33_554_432;
-
-/// Makes the run of a `run` command with one worker, and always returns. Other words are `Usage`.
+/// Makes the run of a `run` or `demo` command with one worker, and always returns. Other words are `Usage`.
 pub fn run_alone_top<S: Source, H: Source, W: Sink, K: Sink>(
     alloc: Global,
     words: &List<Text>,
@@ -37,26 +28,32 @@ pub fn run_alone_top<S: Source, H: Source, W: Sink, K: Sink>(
     ensures outcome { GivesOutcome (run_only (command_of words.now))
         (S.left inp.old) (H.left hot_in.old) (W.held rpt.old) (W.held rpt.new)
         (K.held hot_out.old) (K.held hot_out.new) result }
-    ensures no_command { (result ≡ Ok Status.Usage) ↔ (run_only (command_of words.now) ≡ None) }
+    ensures usage { result ≡ Ok Status.Usage → run_only (command_of words.now) ≡ None }
+    ensures no_command { run_only (command_of words.now) ≡ None
+        → (result ≡ Ok Status.Usage) ⊎ IsErrOf result TopFault.OutOfMemory }
 
     // A fault has its cause in the port's count.
     ensures causes { HasCauses (S.faults inp.old) (S.faults inp.new) (H.faults hot_in.old) (H.faults hot_in.new)
         (W.faults rpt.old) (W.faults rpt.new) (K.faults hot_out.old) (K.faults hot_out.new) result }
 
     // What was read, and what a fault leaves.
-    ensures read_to_end { ReadsToEnd (S.left inp.old) (S.left inp.new) result }
+    ensures input_to_end { reads_input (run_only (command_of words.now)) ≡ true
+        → ReadsInput (S.left inp.old) (S.left inp.new) result }
+    ensures hotstart_to_end { reads_hotstart (run_only (command_of words.now)) ≡ true
+        → ReadsHotstart (H.left hot_in.old) (H.left hot_in.new) result }
     ensures unwritten { BeforeWriting result ((rpt.new ≡ rpt.old) × (hot_out.new ≡ hot_out.old)) }
+    ensures hotstart_after { IsErrOf result (TopFault.Write Port.Rpt) → hot_out.new ≡ hot_out.old }
 
     // Ports that aren't used.
-    ensures unused { (hot_in.new ≡ hot_in.old) × (hot_out.new ≡ hot_out.old) }
-    ensures unused_by_usage { run_only (command_of words.now) ≡ None → (inp.new ≡ inp.old) × (rpt.new ≡ rpt.old) }
+    ensures input_unused { reads_input (run_only (command_of words.now)) ≡ false → inp.new ≡ inp.old }
+    ensures hotstart_unused { reads_hotstart (run_only (command_of words.now)) ≡ false → hot_in.new ≡ hot_in.old }
+    ensures hotstart_unkept { keeps_hotstart (run_only (command_of words.now)) ≡ false → hot_out.new ≡ hot_out.old }
+    ensures report_unused { run_only (command_of words.now) ≡ None → rpt.new ≡ rpt.old }
 {
-    match read_words(words) {
-        Some(command) => match command.mode {
-            Mode::Run => run_input(alloc, Mode::Run, inp, rpt),
-            Mode::Check => Ok(Status::Usage),
-        },
-        None => Ok(Status::Usage),
+    match read_run(alloc, words) {
+        Ok(Some(work)) => do_work(alloc, work, inp, hot_in, rpt, hot_out),
+        Ok(None) => Ok(Status::Usage),
+        Err(OutOfMemory) => Err(TopFault::OutOfMemory),
     }
 }
 
@@ -70,25 +67,26 @@ pub fn check_top<S: Source, W: Sink>(
     // What it gives: the headline. There is no hotstart to read or to write.
     ensures outcome { GivesOutcome (check_only (command_of words.now))
         (S.left inp.old) None (W.held rpt.old) (W.held rpt.new) None None result }
-    ensures no_command { (result ≡ Ok Status.Usage) ↔ (check_only (command_of words.now) ≡ None) }
+    ensures usage { result ≡ Ok Status.Usage → check_only (command_of words.now) ≡ None }
+    ensures no_command { check_only (command_of words.now) ≡ None
+        → (result ≡ Ok Status.Usage) ⊎ IsErrOf result TopFault.OutOfMemory }
 
     // A fault has its cause in the port's count.
     ensures causes { HasCauses (S.faults inp.old) (S.faults inp.new) no_faults no_faults
         (W.faults rpt.old) (W.faults rpt.new) no_faults no_faults result }
 
     // What was read, and what a fault leaves.
-    ensures read_to_end { ReadsToEnd (S.left inp.old) (S.left inp.new) result }
+    ensures input_to_end { reads_input (check_only (command_of words.now)) ≡ true
+        → ReadsInput (S.left inp.old) (S.left inp.new) result }
     ensures unwritten { BeforeWriting result (rpt.new ≡ rpt.old) }
 
     // Ports that aren't used.
-    ensures unused_by_usage { check_only (command_of words.now) ≡ None → (inp.new ≡ inp.old) × (rpt.new ≡ rpt.old) }
+    ensures unused { check_only (command_of words.now) ≡ None → (inp.new ≡ inp.old) × (rpt.new ≡ rpt.old) }
 {
-    match read_words(words) {
-        Some(command) => match command.mode {
-            Mode::Check => run_input(alloc, Mode::Check, inp, rpt),
-            Mode::Run => Ok(Status::Usage),
-        },
-        None => Ok(Status::Usage),
+    match read_check(alloc, words) {
+        Ok(Some(_)) => check_input(alloc, inp, rpt),
+        Ok(None) => Ok(Status::Usage),
+        Err(OutOfMemory) => Err(TopFault::OutOfMemory),
     }
 }
 
@@ -107,61 +105,31 @@ pub fn swmm_top<R: Threads + Wait + Sync, S: Source, H: Source, W: Sink, K: Sink
     ensures outcome { GivesOutcome (command_of words.now)
         (S.left inp.old) (H.left hot_in.old) (W.held rpt.old) (W.held rpt.new)
         (K.held hot_out.old) (K.held hot_out.new) result }
-    ensures no_command { (result ≡ Ok Status.Usage) ↔ (command_of words.now ≡ None) }
+    ensures usage { result ≡ Ok Status.Usage → command_of words.now ≡ None }
+    ensures no_command { command_of words.now ≡ None
+        → (result ≡ Ok Status.Usage) ⊎ IsErrOf result TopFault.OutOfMemory }
 
     // A fault has its cause in the port's count.
     ensures causes { HasCauses (S.faults inp.old) (S.faults inp.new) (H.faults hot_in.old) (H.faults hot_in.new)
         (W.faults rpt.old) (W.faults rpt.new) (K.faults hot_out.old) (K.faults hot_out.new) result }
 
     // What was read, and what a fault leaves.
-    ensures read_to_end { ReadsToEnd (S.left inp.old) (S.left inp.new) result }
+    ensures input_to_end { reads_input (command_of words.now) ≡ true
+        → ReadsInput (S.left inp.old) (S.left inp.new) result }
+    ensures hotstart_to_end { reads_hotstart (command_of words.now) ≡ true
+        → ReadsHotstart (H.left hot_in.old) (H.left hot_in.new) result }
     ensures unwritten { BeforeWriting result ((rpt.new ≡ rpt.old) × (hot_out.new ≡ hot_out.old)) }
+    ensures hotstart_after { IsErrOf result (TopFault.Write Port.Rpt) → hot_out.new ≡ hot_out.old }
 
     // Ports that aren't used.
-    ensures unused { (hot_in.new ≡ hot_in.old) × (hot_out.new ≡ hot_out.old) }
-    ensures unused_by_usage { command_of words.now ≡ None → (inp.new ≡ inp.old) × (rpt.new ≡ rpt.old) }
+    ensures input_unused { reads_input (command_of words.now) ≡ false → inp.new ≡ inp.old }
+    ensures hotstart_unused { reads_hotstart (command_of words.now) ≡ false → hot_in.new ≡ hot_in.old }
+    ensures hotstart_unkept { keeps_hotstart (command_of words.now) ≡ false → hot_out.new ≡ hot_out.old }
+    ensures report_unused { command_of words.now ≡ None → rpt.new ≡ rpt.old }
 {
-    match read_words(words) {
-        Some(command) => match command.mode {
-            Mode::Check => check_top(alloc, words, inp, rpt),
-            Mode::Run => run_alone_top(alloc, words, inp, hot_in, rpt, hot_out),
-        },
-        None => Ok(Status::Usage),
-    }
-}
-
-// Reads the input and reports what the mode gives for it.
-fn run_input<S: Source, W: Sink>(
-    alloc: Global,
-    mode: Mode,
-    inp: &mut S,
-    rpt: &mut W,
-) -> Result<Status, TopFault>
-    ensures outcome { IfSome (S.left inp.old) (λ input.
-        ReportsOutcome mode input (W.held rpt.old) (W.held rpt.new) result) }
-    ensures no_usage { IfOk result (λ status. status ≢ Status.Usage) }
-    ensures read_input { FailsOnlyAt (TopFault.Read Port.Inp) (S.faults inp.old) (S.faults inp.new) result }
-    ensures write_report { FailsOnlyAt (TopFault.Write Port.Rpt) (W.faults rpt.old) (W.faults rpt.new) result }
-    ensures faults { OnErr result (IsErrOf result TopFault.OutOfMemory
-        ⊎ (IsErrOf result (TopFault.Read Port.Inp) ⊎ IsErrOf result (TopFault.Write Port.Rpt))) }
-    ensures read_to_end { ReadsToEnd (S.left inp.old) (S.left inp.new) result }
-    ensures unwritten { BeforeWriting result (rpt.new ≡ rpt.old) }
-{
-    match read_input(alloc, inp) {
-        Ok(bytes) => report_input(alloc, mode, &bytes, rpt),
-        Err(fault) => Err(fault),
-    }
-}
-
-// Reads the input to its end, or one byte past the limit.
-fn read_input<S: Source>(alloc: Global, inp: &mut S) -> Result<Vec<u8>, TopFault>
-    ensures bytes { IfOk result (λ bytes. TakesFront (input_limit + 1) (S.left inp.old) (S.left inp.new) bytes.items) }
-    ensures cause { FailsOnlyAt (TopFault.Read Port.Inp) (S.faults inp.old) (S.faults inp.new) result }
-    ensures faults { OnErr result (IsErrOf result TopFault.OutOfMemory ⊎ IsErrOf result (TopFault.Read Port.Inp)) }
-{
-    match read_front(alloc, inp, INPUT_LIMIT + 1) {
-        Ok(bytes) => Ok(bytes),
-        Err(ReadFault::Failed) => Err(TopFault::Read(Port::Inp)),
-        Err(ReadFault::OutOfMemory) => Err(TopFault::OutOfMemory),
+    match read_work(alloc, words) {
+        Ok(Some(work)) => do_work(alloc, work, inp, hot_in, rpt, hot_out),
+        Ok(None) => Ok(Status::Usage),
+        Err(OutOfMemory) => Err(TopFault::OutOfMemory),
     }
 }

@@ -8,7 +8,7 @@ use std::alloc::Global;
 use std::test::Fail;
 
 // The last state of the reach in a file of version 2, and in one of version 1.
-const LAST_STATE: [u8; 64] = *b"SWMMFXH2\x02\0\0\0\x01\0\0\0\0\0\0\0\0\0\0\0\
+pub(crate) const LAST_STATE: [u8; 64] = *b"SWMMFXH2\x02\0\0\0\x01\0\0\0\0\0\0\0\0\0\0\0\
     \xa1\x8b\x0f\0\0\0\0\0\x40\x42\x0f\0\0\0\0\0\xd3\x4a\0\0\0\0\0\0\x40\x42\x0f\0\0\0\0\0\
     \x5c\x7b\0\0\0\0\0\0";
 

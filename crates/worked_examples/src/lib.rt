@@ -15,6 +15,8 @@ mod reaches;
 #[cfg(test)]
 mod refusals;
 #[cfg(test)]
+mod resumes;
+#[cfg(test)]
 mod runs;
 #[cfg(test)]
 mod times;

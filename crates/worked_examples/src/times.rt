@@ -85,7 +85,7 @@ fn time_of_run(
 ) -> Result<Option<i64>, OutOfMemory>
     requires { IsFaultless project }
 {
-    let mut run = open_run(alloc, project)?;
+    let mut run = open_run(alloc, project, None)?;
     let made = run.advance_alone(rpt);
     let time = run.least_travel_time();
     drop(run);

@@ -5,7 +5,7 @@ use Rattle.std.proofs.lemmas.Int.{ints, clamps}
 use Rattle.fixed_num.specs.Ranges.{IsBetween, IsFall, IsWithin}
 use Rattle.fixed_num.proofs.Bounds.{between_number, between_min, between_mul, between_quo_by, between_root2, between_root3, between_up, quo_of-abs, quo_of-from_zero, le_number}
 use Rattle.xsect_tables.specs.NormalFlow.{celerity_of, slope_of, speed_of, discharge_of, uniform_of, normal_flow_of}
-use Rattle.xsect_tables.specs.LookUps.{ratio_of, radius_of, area_of, perimeter_of}
+use Rattle.xsect_tables.specs.LookUps.{ratio_of, radius_of, area_of}
 use Rattle.xsect_tables.specs.SectionTable.{SectionTable, IsTable, full_area}
 use Rattle.xsect_tables.proofs.TableLemmas.{area_small, area_wet, perimeter_of-between}
 

@@ -1,12 +1,11 @@
 -- An area at a depth is no more than a width along the wetted perimeter, where it is so at the grid heights around the depth.
-use Rattle.std.proofs.Common.{◌≡◌, ℕ, ◌+◌, ◌*◌, ◌≤◌, ◌<◌, ℤ, pos, negsuc, ◌+ℤ◌, ◌-ℤ◌, ◌*ℤ◌, ◌≤ℤ◌, ◌<ℤ◌, unsigned_abs, refl, sym, ap, subst, ◌∙◌, inl, inr, arith}
+use Rattle.std.proofs.Common.{◌≡◌, ℕ, ◌+◌, ◌*◌, ◌≤◌, ◌<◌, ℤ, pos, negsuc, ◌+ℤ◌, ◌-ℤ◌, ◌*ℤ◌, ◌≤ℤ◌, ◌<ℤ◌, refl, ap, ◌∙◌, inl, inr, arith}
 use Rattle.std.specs.Int.{int_max}
 use Rattle.std.proofs.lemmas.Bool.{cases_lt}
 use Rattle.std.proofs.lemmas.Int.{ints, clamps}
 use Rattle.std.proofs.lemmas.Nat.{mul-le}
 use borrow.Author.Differences.{sum_is_lem}
 use Rattle.fixed_num.specs.Interpolation.{lerp_of}
-use Rattle.fixed_num.specs.Ranges.{IsBetween}
 use Rattle.fixed_num.specs.Rounding.{quo_of}
 use Rattle.fixed_num.proofs.RoundingLemmas.{IsNearest-quo_of}
 

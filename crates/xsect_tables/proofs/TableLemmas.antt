@@ -1,9 +1,9 @@
 -- What holds of the rows of every table, and the range of each look-up.
-use Rattle.std.proofs.Common.{◌≡◌, ℕ, ◌+◌, ◌*◌, ◌^◌, ◌<◌, ◌≤◌, Bool, true, false, cond, ◌==◌, ◌&&◌, List, ℤ, pos, ◌+ℤ◌, ◌-ℤ◌, ◌*ℤ◌, ◌≤ℤ◌, ◌<ℤ◌, int_lt, sym, refl, ap, subst, ◌∙◌, arith}
+use Rattle.std.proofs.Common.{◌≡◌, ℕ, ◌*◌, ◌^◌, ◌<◌, ◌≤◌, Bool, true, false, cond, ◌==◌, ◌&&◌, ℤ, pos, ◌+ℤ◌, ◌-ℤ◌, ◌*ℤ◌, ◌≤ℤ◌, int_lt, sym, refl, ap, subst, ◌∙◌, arith}
 use Rattle.std.specs.Int.{int_max, int_min}
 use Rattle.std.proofs.lemmas.Bool.Decides.{nat_tests}
 use Rattle.std.proofs.lemmas.Int.{ints, clamps}
-use Rattle.fixed_num.specs.Ranges.{IsBetween, IsWithin, IsFall, IsFullHeight}
+use Rattle.fixed_num.specs.Ranges.{IsBetween, IsFall, IsFullHeight}
 use Rattle.fixed_num.specs.Rounding.{quo_of}
 use Rattle.fixed_num.specs.Sums.{sum_below}
 use Rattle.fixed_num.proofs.Bounds.{between_quo_by, between_mul, between_up, quo_of-mono, quo_of-exact, le_number, lt_number}
@@ -13,12 +13,12 @@ use Rattle.net_types.specs.declared.network.Shape.{Shape}
 use Rattle.net_types.specs.declared.network.Shape.TheVariants.{RectOpen, RectClosed, Trapezoidal, Triangular, Circular}
 use Rattle.xsect_tables.specs.Sections.{top_width}
 use Rattle.xsect_tables.specs.SectionTable.{SectionTable, entry, row_of, table_of, full_area, full_height, grid_height, grid_width, grid_area, grid_perimeter, wetted_perimeter, strip_area, strip_sides, RowBetween, IsTable}
-use Rattle.xsect_tables.specs.LookUps.{IsStrip, row_at, value_at, strip_at, slot_width, slot_area, is_in_slot, area_of, width_of, least_width, perimeter_of}
+use Rattle.xsect_tables.specs.LookUps.{row_at, value_at, slot_width, slot_area, is_in_slot, area_of, width_of, least_width, perimeter_of}
 use Rattle.xsect_tables.proofs.GridLemmas.{grid_is, grid-last, full_is}
 use Rattle.xsect_tables.proofs.LookUpLemmas.{row_at-between, row_at-top, strip_found, depth_within}
 use Rattle.xsect_tables.proofs.RatioLemmas.{lerp_wet}
 use Rattle.xsect_tables.proofs.RowLemmas.{entry-row_of}
-use Rattle.xsect_tables.proofs.StripLemmas.{sum_between, sum_rises, sum_times_most, area_none}
+use Rattle.xsect_tables.proofs.StripLemmas.{sum_between, sum_rises, sum_times_most}
 use Rattle.xsect_tables.proofs.WidthLemmas.{grid_width-between, strip_area-between, strip_sides-between, strip_wet}
 
 -- ---- the rows of a section

@@ -2,10 +2,10 @@
 use Rattle.std.proofs.Common.{ℕ, ◌+◌, ◌*◌, ◌^◌, ◌<◌, ◌≤◌, ℤ, pos, negsuc, ◌+ℤ◌, ◌-ℤ◌, ◌*ℤ◌, ◌≤ℤ◌, unsigned_abs, arith}
 use Rattle.std.proofs.lemmas.Int.{ints, unsigned_abs-mul}
 use Rattle.std.proofs.lemmas.Nat.{mul-le}
-use Rattle.fixed_num.specs.Ranges.{IsBetween, IsWithin, IsCoefficient, IsFullHeight, IsWidth}
+use Rattle.fixed_num.specs.Ranges.{IsBetween, IsCoefficient, IsFullHeight, IsWidth}
 use Rattle.fixed_num.specs.Rounding.{quo_of}
 use Rattle.fixed_num.specs.Roots.{root2_of}
-use Rattle.fixed_num.proofs.Bounds.{between_add, between_mul, between_number, between_quo_by, between_root2, between_up, within_between, within_sub, quo_of-abs, quo_of-from_zero, le_number}
+use Rattle.fixed_num.proofs.Bounds.{between_mul, between_number, between_quo_by, between_root2, between_up, within_between, within_sub, quo_of-abs, quo_of-from_zero, le_number}
 use Rattle.net_types.specs.Ranges.{SectionInRange, ShapeInRange}
 use Rattle.net_types.specs.declared.network.Section.{Section}
 use Rattle.net_types.specs.declared.network.Shape.{Shape}

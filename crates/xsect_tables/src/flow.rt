@@ -11,8 +11,8 @@ ghost use Rattle.xsect_tables.specs.NormalFlow.{normal_flow_of, is_carried as ca
 ghost use Rattle.xsect_tables.specs.NormalFlow.{is_subcritical as subcritical_at, critical_of, normal_of};
 
 use crate::table::Table;
-use fixed_num::{GRAVITY, quo, root2, root3};
-use quick_quotients::{quick_root2, reaches_root};
+use fixed_num::{GRAVITY, quo};
+use quick_quotients::{quick_root2, quick_root3, reaches_root};
 
 /// The area below a depth, in mm², and the width there, in µm.
 #[derive(Clone, Copy, Debug)]
@@ -80,7 +80,7 @@ fn slope(drop: i64, length: i64) -> i64
     ensures value { result ≡ slope_of drop length }
     ensures range { IsBetween (pos 0) result (pos (2 * 10 ^ 9)) }
 {
-    root2(quo(drop.max(305) as i128 * 1_000_000_000_000, length as i128)) as i64
+    quick_root2(quo(drop.max(305) as i128 * 1_000_000_000_000, length as i128)) as i64
 }
 
 // The speed of uniform flow, in µm/s.
@@ -91,7 +91,7 @@ fn speed(radius: i64, slope6: i64, n6: i64) -> i64
     ensures value { result ≡ speed_of radius slope6 n6 }
     ensures range { IsBetween (pos 0) result (pos (10 ^ 18)) }
 {
-    let power = root3(radius as i128 * radius as i128 * 1_000_000_000);
+    let power = quick_root3(radius as i128 * radius as i128 * 1_000_000_000);
     quo(power * slope6 as i128, 10 * n6 as i128) as i64
 }
 

@@ -8,8 +8,9 @@ ghost use Rattle.xsect_tables.specs.SectionTable.{grid_area};
 ghost use Rattle.xsect_tables.specs.SectionTable.{grid_perimeter, wetted_perimeter, strip_area as area_of_strip};
 ghost use Rattle.xsect_tables.specs.SectionTable.{strip_sides as sides_of_strip, sides_of};
 
-use fixed_num::{quo, root2};
+use fixed_num::quo;
 use net_types::{Section, Shape};
+use quick_quotients::quick_root2;
 
 // Grid height `i` of a full height, in µm.
 fn grid_height(full: i64, i: usize) -> i64
@@ -73,7 +74,7 @@ fn circle_width(full: i64, y: i64) -> i64
     ensures value { result ≡ shape_width Shape.Circular full y }
     ensures range { IsBetween (pos 0) result (pos (2 * 10 ^ 9)) }
 {
-    (2 * root2(y as i128 * (full - y) as i128)) as i64
+    (2 * quick_root2(y as i128 * (full - y) as i128)) as i64
 }
 
 // The area of the strip between grid heights `i` and `i + 1`, in µm².
@@ -110,7 +111,7 @@ fn sides(rise: i64, spread: i64) -> i64
     ensures value { result ≡ sides_of rise spread }
     ensures range { IsBetween (pos 0) result (pos (10 ^ 12)) }
 {
-    root2(4 * (rise as i128 * rise as i128) + spread as i128 * spread as i128) as i64
+    quick_root2(4 * (rise as i128 * rise as i128) + spread as i128 * spread as i128) as i64
 }
 
 // The grid heights.

@@ -86,6 +86,16 @@ impl Table {
         self.heights[200]
     }
 
+    /// The area below the full height of a section, in mm²: that of its table, which is not made.
+    ///
+    /// Source: this project's profile.
+    pub fn section_area(section: &Section) -> i64
+        requires { SectionInRange section.now }
+        ensures { result ≡ area_of_table (table_of section.now) }
+    {
+        areas(section)[200]
+    }
+
     /// The number of barrels.
     pub fn barrels(&self) -> i64
         ensures value { result ≡ self.now.barrels }

@@ -1,4 +1,4 @@
-use Rattle.std.proofs.Common.{get_or, refl}
+use Rattle.std.proofs.Common.{refl}
 use Rattle.std.proofs.lemmas.List.{get_or_default}
 use Rattle.net_types.specs.Records.{pair_at}
 use Rattle.link_eval.proofs.ListLemmas.{copy_step}

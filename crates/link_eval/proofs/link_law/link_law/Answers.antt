@@ -2,7 +2,7 @@ use Rattle.std.proofs.Common.{◌≡◌, ◌∙◌, ◌<◌, List, length, ap, a
 use Rattle.project_check.proofs.HeightLemmas.{node_is}
 use Rattle.net_types.specs.declared.network.Node.{Node}
 use Rattle.net_types.specs.Records.{node_at}
-use Rattle.link_eval.proofs.BuildLemmas.{link_law_is}
+use Rattle.link_eval.proofs.BuildLemmas.{link_law_good, link_law_is}
 use Rattle.link_eval.proofs.link_law.link_law.Goals as goal
 use Rattle.link_eval.proofs.link_law.link_law.Goals.{After-between-ends}
 
@@ -23,4 +23,7 @@ far c =
 pub returns-clause-value : goal.returns-clause-value
 returns-clause-value c =
     let d = (goal.at.returns-clause-value c).After-between-ends in
-    link_law_is c.args.project.now.nodes c.args.project.now.options c.args.link.now (near d) (far d) c.between-ends.ensures.value c.in_ok-rule.ensures.value
+    link_law_is c.args.project.now.nodes c.args.project.now.options c.args.link.now c.link_rule.new.stock.tables c.in_ok-rule.rule (near d) (far d) c.between-ends.ensures.value c.in_ok-rule.ensures.value
+
+pub returns-clause-good : goal.returns-clause-good
+returns-clause-good c = link_law_good c.args.link.now c.link_rule.new.stock.tables c.in_ok-rule.rule c.requires.link c.in_ok-rule.ensures.good c.in_ok-rule.ensures.curve

@@ -6,7 +6,7 @@ use Rattle.run_engine.proofs.RunoffLemmas.{IsLastAt}
 use Rattle.run_engine.proofs.laterals.advance_runoff.Given as goal
 
 abbrev pub invariant-loop-runoff : goal.invariant-loop-runoff
-invariant-loop-runoff l = (steps : ℕ) × IsLastAt l.project l.moment steps l.runoff × AreRunoffsOf l.project steps l.subs
+invariant-loop-runoff l = (steps : ℕ) × IsLastAt l.start l.moment steps l.runoff × AreRunoffsOf l.start steps l.subs
 
 abbrev pub decreases-loop-runoff : goal.decreases-loop-runoff
 decreases-loop-runoff l = unsigned_abs (l.moment -ℤ l.runoff.begin)

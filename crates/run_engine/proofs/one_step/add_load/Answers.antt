@@ -1,4 +1,4 @@
-use Rattle.std.proofs.Common.{◌∙◌, ◌+◌, ℕ, length, sym, ap, subst}
+use Rattle.std.proofs.Common.{◌∙◌, ◌+◌, ℕ, sym, ap, subst}
 use Rattle.std.proofs.lemmas.Int.{to_z-of_z}
 use Rattle.summaries.specs.Loads.{AreLoadsOf}
 use Rattle.run_engine.specs.Results.{length_before}
@@ -12,21 +12,21 @@ add_state-requires-clause-nets c = has_nets c.requires.now.fits
 
 pub add_state-requires-clause-loads : goal.add_state-requires-clause-loads
 add_state-requires-clause-loads c =
-    subst (λ (n : ℕ). AreLoadsOf n c.args.outfalls.now) (sym (c.requires.now.fits.nodes.count ∙ law_nodes c.args.project.now)) c.requires.outfalls.good
+    subst (λ (n : ℕ). AreLoadsOf n c.args.outfalls.now) (sym (c.requires.now.fits.nodes.count ∙ law_nodes c.args.start.now.project)) c.requires.outfalls.good
 
 pub returns : goal.returns
 returns c =
-    let project = c.args.project.now in
+    let start = c.args.start.now in
     let loads = c.requires.outfalls in
     let added = c.add_state.ensures in
     let summaries = simp (to_z-of_z, c.ranges.ms) at added.summaries in
     record {
       outfalls = record {
-        good = subst (λ (n : ℕ). AreLoadsOf n c.add_state.new.self) (c.requires.now.fits.nodes.count ∙ law_nodes project) added.loads;
+        good = subst (λ (n : ℕ). AreLoadsOf n c.add_state.new.self) (c.requires.now.fits.nodes.count ∙ law_nodes start.project) added.loads;
         states = added.states ∙ ap (λ (n : ℕ). n + 1) loads.states;
         outfalls = added.nodes ∙ loads.outfalls;
-        summaries = summaries (nets_at project) (length_before project) loads.summaries
-            (ap (nets_at project) loads.states ∙ sym c.requires.now.same)
-            (ap (length_before project) loads.states ∙ sym c.requires.length);
+        summaries = summaries (nets_at start) (length_before start) loads.summaries
+            (ap (nets_at start) loads.states ∙ sym c.requires.now.same)
+            (ap (length_before start) loads.states ∙ sym c.requires.length);
       };
     }

@@ -1,8 +1,6 @@
-use Rattle.std.proofs.Common.{rules, ◌≡◌, ◌∙◌, ◌+◌, ℕ, sym, ap, subst, FitsSigned, w64}
+use Rattle.std.proofs.Common.{rules, ◌∙◌, ◌+◌, sym, FitsSigned, w64}
 use Rattle.std.proofs.KnownBytes.{Appends-nil}
 use Rattle.std.proofs.lemmas.Int.{to_z-of_z}
-use Rattle.run_engine.specs.Kept.{IsTotalFrom}
-use Rattle.run_engine.specs.StepLines.{line_before, own_line}
 use Rattle.run_engine.proofs.LineLemmas.{from_line, from_same, line_put, line_reached, no_line}
 use Rattle.run_engine.proofs.one_step.step_and_line.Goals as goal
 
@@ -12,47 +10,47 @@ reaches_report-requires g c = c.requires.kept.ready.sound.options.report_in
 -- no line
 pub returns-then-not-reaches_report-clause-since : goal.returns-then-not-reaches_report-clause-since
 returns-then-not-reaches_report-clause-since g c =
-    let project = c.args.project.now in
+    let start = c.args.start.now in
     let before : FitsSigned w64 c.args.kept.now.moment = search rules in
     let after : FitsSigned w64 c.one_step.new.kept.moment = search rules in
     let tested = simp (to_z-of_z, before, after) at c.reaches_report.ensures in
     let now = rw c.one_step.ensures.steps at c.one_step.ensures.kept.clock.same in
-    let line = line_reached project c.args.kept.now.counts.steps c.requires.kept.clock.same now tested ∙ c.if-not-reaches_report.true in
+    let line = line_reached start c.args.kept.now.counts.steps c.requires.kept.clock.same now tested ∙ c.if-not-reaches_report.true in
     let k = c.args.kept.now.counts.steps + 1 in
     let at = rw c.one_step.ensures.steps at c.one_step.ensures.since in
-    rw c.one_step.ensures.steps (from_same project k c.one_step.new.since line at)
+    rw c.one_step.ensures.steps (from_same start k c.one_step.new.since line at)
 
 pub returns-then-not-reaches_report-clause-bytes : goal.returns-then-not-reaches_report-clause-bytes
 returns-then-not-reaches_report-clause-bytes g c =
-    let project = c.args.project.now in
+    let start = c.args.start.now in
     let before : FitsSigned w64 c.args.kept.now.moment = search rules in
     let after : FitsSigned w64 c.one_step.new.kept.moment = search rules in
     let tested = simp (to_z-of_z, before, after) at c.reaches_report.ensures in
     let now = rw c.one_step.ensures.steps at c.one_step.ensures.kept.clock.same in
-    let line = line_reached project c.args.kept.now.counts.steps c.requires.kept.clock.same now tested ∙ c.if-not-reaches_report.true in
-    rw (no_line project (c.args.kept.now.counts.steps + 1) line) (Appends-nil (g.W.Sink.held c.args.rpt.now))
+    let line = line_reached start c.args.kept.now.counts.steps c.requires.kept.clock.same now tested ∙ c.if-not-reaches_report.true in
+    rw (no_line start (c.args.kept.now.counts.steps + 1) line) (Appends-nil (g.W.Sink.held c.args.rpt.now))
 
 -- a line
 pub returns-clause-since : goal.returns-clause-since
 returns-clause-since g c =
-    let project = c.args.project.now in
+    let start = c.args.start.now in
     let before : FitsSigned w64 c.args.kept.now.moment = search rules in
     let after : FitsSigned w64 c.one_step.new.kept.moment = search rules in
     let tested = simp (to_z-of_z, before, after) at c.reaches_report.ensures in
     let now = rw c.one_step.ensures.steps at c.one_step.ensures.kept.clock.same in
-    let line = line_reached project c.args.kept.now.counts.steps c.requires.kept.clock.same now tested ∙ c.if-not-reaches_report.false in
+    let line = line_reached start c.args.kept.now.counts.steps c.requires.kept.clock.same now tested ∙ c.if-not-reaches_report.false in
     let k = c.args.kept.now.counts.steps + 1 in
-    rw c.one_step.ensures.steps (from_line project k _ line c.clear.ensures.value)
+    rw c.one_step.ensures.steps (from_line start k _ line c.clear.ensures.value)
 
 pub returns-clause-bytes : goal.returns-clause-bytes
 returns-clause-bytes g c =
-    let project = c.args.project.now in
+    let start = c.args.start.now in
     let before : FitsSigned w64 c.args.kept.now.moment = search rules in
     let after : FitsSigned w64 c.one_step.new.kept.moment = search rules in
     let tested = simp (to_z-of_z, before, after) at c.reaches_report.ensures in
     let now = rw c.one_step.ensures.steps at c.one_step.ensures.kept.clock.same in
-    let line = line_reached project c.args.kept.now.counts.steps c.requires.kept.clock.same now tested ∙ c.if-not-reaches_report.false in
+    let line = line_reached start c.args.kept.now.counts.steps c.requires.kept.clock.same now tested ∙ c.if-not-reaches_report.false in
     let k = c.args.kept.now.counts.steps + 1 in
     let at = rw c.one_step.ensures.steps at c.one_step.ensures.since in
     let put = simp (to_z-of_z, after, c.total-account.ensures.value) at c.put_step_line.ensures.bytes in
-    rw (sym (line_put project k c.one_step.new.since c.one_step.new.kept.moment line at now)) put
+    rw (sym (line_put start k c.one_step.new.since c.one_step.new.kept.moment line at now)) put

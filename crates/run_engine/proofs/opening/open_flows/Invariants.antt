@@ -4,4 +4,4 @@ use Rattle.run_engine.proofs.FillLemmas.{Filled}
 use Rattle.run_engine.proofs.opening.open_flows.Given as goal
 
 abbrev pub invariant-loop-l : goal.invariant-loop-l
-invariant-loop-l l = Filled (opening_flow l.links) (pos 0) l.initial.flows l.flows l.l
+invariant-loop-l l = Filled (opening_flow l.start) (pos 0) l.initial.flows l.flows l.l

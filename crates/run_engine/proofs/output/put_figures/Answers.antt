@@ -1,5 +1,4 @@
 -- The figures, as plain values.
-use Rattle.std.proofs.Common.{◌≡◌, sym}
 use Rattle.report_writer.specs.WholeTail.{whole_tail_of}
 use Rattle.run_engine.proofs.OutfallLemmas.{outfall_nodes_in}
 use Rattle.run_engine.proofs.SubLemmas.{total_runoff_is}

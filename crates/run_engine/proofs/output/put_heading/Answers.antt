@@ -1,5 +1,5 @@
 -- Two pieces, one after the other.
-use Rattle.fault_ports.proofs.OutputLemmas.{puts_after, prefix_stays}
+use Rattle.fault_ports.proofs.OutputLemmas.{puts_after}
 use Rattle.run_engine.proofs.output.put_heading.Goals as goal
 
 pub returns-in-Ok-clause-bytes : goal.returns-in-Ok-clause-bytes

@@ -18,10 +18,10 @@ overflow_sub-result c =
     simp (to_z-of_z, lateral, inflow, outflow, fits64 (gross_within c.requires.last i) tt) (fits64 (net_within c.requires.last i o) tt)
 
 pub lateral_here-requires-clause-n : goal.lateral_here-requires-clause-n
-lateral_here-requires-clause-n c = omega (arith, c.requires.n, laterals_count c.args.project.now c.args.finish c.requires.laterals)
+lateral_here-requires-clause-n c = omega (arith, c.requires.n, laterals_count c.args.start.now c.args.finish c.requires.laterals)
 
 pub lateral_here-requires-clause-flow : goal.lateral_here-requires-clause-flow
-lateral_here-requires-clause-flow c = laterals_in c.args.project.now c.args.finish c.args.n c.requires.n c.requires.laterals
+lateral_here-requires-clause-flow c = laterals_in c.args.start.now c.args.finish c.args.n c.requires.n c.requires.laterals
 
 pub returns : goal.returns
 returns c =
@@ -37,6 +37,6 @@ returns c =
     same_node
     (to_z-of_z w64 _ head)
     (simp (to_z-of_z, lateral, inflow, outflow, fits64 (gross_within c.requires.last i) tt, fits64 (net_within c.requires.last i o) tt) refl)
-    (to_z-of_z w64 _ next ∙ c.lateral_here.ensures ∙ laterals_number c.args.project.now c.args.finish n c.requires.n c.requires.laterals)
+    (to_z-of_z w64 _ next ∙ c.lateral_here.ensures ∙ laterals_number c.args.start.now c.args.finish n c.requires.n c.requires.laterals)
     (to_z-of_z w64 _ stage ∙ (simp (to_z-of_z, c.ranges.finish) at c.node_stage.ensures.value))
     (to_z-of_z w64 _ c.ranges.dt)

@@ -12,7 +12,7 @@ loop-n-preserved c =
     let made = simp (to_z-of_z, c.ranges.dt, c.ranges.finish) at c.node_start.ensures in
     let room : n < length c.loop-n.nodes = omega (arith, kept.count, c.requires.nodes.many, c.loop-n-test.true, ap length c.as_slice.ensures) in
     let last : node_fixed_at c.loop-n.nodes n ≡ node_fixed_at c.args.nodes.now n = kept.left n (omega arith) in
-    simp (to_z-of_z, c.ranges.dt, c.ranges.finish) (filled_more kept _ room (made ∙ same_start c.args.project.now c.args.heads.now c.args.inflows.now c.args.outflows.now _ _ c.args.finish c.args.dt n last))
+    simp (to_z-of_z, c.ranges.dt, c.ranges.finish) (filled_more kept _ room (made ∙ same_start c.args.start.now c.args.heads.now c.args.inflows.now c.args.outflows.now _ _ c.args.finish c.args.dt n last))
 
 pub returns : goal.returns
 returns c =

@@ -1,4 +1,4 @@
-use Rattle.std.proofs.Common.{◌≡◌, ◌∙◌, ◌<◌, length, ap, rules, arith, FitsSigned, w64}
+use Rattle.std.proofs.Common.{◌∙◌, ◌<◌, length, ap, rules, arith, FitsSigned, w64}
 use Rattle.std.proofs.lemmas.Int.{to_z-of_z}
 use Rattle.run_engine.proofs.FillLemmas.{filled_all, filled_more}
 use Rattle.run_engine.proofs.LawLemmas.{law_links}

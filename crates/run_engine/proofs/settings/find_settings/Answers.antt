@@ -1,5 +1,4 @@
 use Rattle.std.proofs.Common.{◌∙◌, length, ap}
-use Rattle.std.proofs.lemmas.Int.{to_z-of_z}
 use Rattle.run_engine.proofs.SettingLemmas.{pumped_count, seen_count, settings_count}
 use Rattle.run_engine.proofs.settings.find_settings.Goals as goal
 

@@ -1,4 +1,4 @@
-use Rattle.std.proofs.Common.{◌≡◌, ◌∙◌, ◌<◌, List, length, ℤ, ◌-ℤ◌, ap, sym, subst, rules, arith, FitsSigned, w64}
+use Rattle.std.proofs.Common.{◌≡◌, ◌∙◌, ◌<◌, List, length, ◌-ℤ◌, ap, sym, subst, rules, arith, FitsSigned, w64}
 use Rattle.std.proofs.lemmas.Int.{to_z-of_z}
 use Rattle.fixed_num.specs.Lists.{number}
 use Rattle.fixed_num.specs.Ranges.{IsFall}

@@ -1,4 +1,4 @@
-use Rattle.std.proofs.Common.{rules, ◌≡◌, ◌∙◌, length, ap, sym, FitsSigned, w64}
+use Rattle.std.proofs.Common.{rules, ◌∙◌, length, ap, sym, FitsSigned, w64}
 use Rattle.std.proofs.lemmas.Int.{to_z-of_z}
 use Rattle.trial_model.proofs.TrialLemmas.{written_whole}
 use Rattle.run_engine.proofs.LawLemmas.{law_links, law_nodes}

@@ -1,4 +1,4 @@
-use Rattle.std.proofs.Common.{◌≡◌, ◌∙◌, rules, FitsSigned, w64}
+use Rattle.std.proofs.Common.{◌∙◌, rules, FitsSigned, w64}
 use Rattle.std.proofs.lemmas.Int.{to_z-of_z}
 use Rattle.fixed_num.proofs.Bounds.{fits64, within_between}
 use Rattle.trial_model.specs.Fits.{link_fixed_at}

@@ -1,4 +1,4 @@
-use Rattle.std.proofs.Common.{◌≡◌, ◌<◌, length, ap, arith}
+use Rattle.std.proofs.Common.{length, ap, arith}
 use Rattle.run_engine.proofs.FillLemmas.{filled_all}
 use Rattle.run_engine.proofs.settings.see_inflows.Goals as goal
 

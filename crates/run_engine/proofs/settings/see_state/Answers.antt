@@ -1,4 +1,4 @@
-use Rattle.std.proofs.Common.{◌≡◌, ◌∙◌, length, ap}
+use Rattle.std.proofs.Common.{◌∙◌, length, ap}
 use Rattle.trial_model.proofs.TrialLemmas.{written_whole}
 use Rattle.run_engine.proofs.LawLemmas.{law_nodes}
 use Rattle.run_engine.proofs.PreparedLemmas.{inflows_are, laterals_are}

@@ -1,17 +1,15 @@
--- What each command gives, by its words.
-use Rattle.std.proofs.Common.{None, ap, sym}
-use Rattle.swmm_top.specs.CommandWords.{command_of, check_only}
-use Rattle.swmm_top.proofs.OutcomeLemmas.{check_gives, not_check, usage_gives}
+-- What words give, by their work.
+use Rattle.command_words.specs.CommandWords.{command_of}
+use Rattle.swmm_top.proofs.TopLemmas.{gives_checked, gives_no_memory, gives_usage}
+use Rattle.swmm_top.specs.Uses.{check_only}
 use Rattle.swmm_top.proofs.top.check_top.Goals as goal
 
-pub returns-in-Check-clause-outcome : goal.returns-in-Check-clause-outcome
-returns-in-Check-clause-outcome g c =
-    check_gives (g.S.Source.left c.args.inp.now) None _ _ None _ (command_of c.args.words.now) _ c.in-Some.ensures.command c.in-Check.is c.in-Some.ensures.names c.run_input.ensures.outcome
+pub returns-in-Ok-Some-clause-outcome : goal.returns-in-Ok-Some-clause-outcome
+returns-in-Ok-Some-clause-outcome g c =
+    gives_checked (command_of c.args.words.now) c.in-Ok-Some.field-0-0 (rw c.in-Ok-Some.field-0-is at c.in-Ok-Some.ensures) _ _ _ _ c.check_input.ensures.outcome
 
-pub returns-in-Run-clause-outcome : goal.returns-in-Run-clause-outcome
-returns-in-Run-clause-outcome g c =
-    usage_gives (check_only (command_of c.args.words.now)) (g.S.Source.left c.args.inp.now) None _ None (not_check (command_of c.args.words.now) _ c.in-Some.ensures.command c.in-Run.is)
+pub returns-in-Ok-None-clause-outcome : goal.returns-in-Ok-None-clause-outcome
+returns-in-Ok-None-clause-outcome g c = gives_usage (check_only (command_of c.args.words.now)) (rw c.in-Ok-None.field-0-is at c.in-Ok-None.ensures) _ _ _ _
 
-pub returns-in-None-clause-outcome : goal.returns-in-None-clause-outcome
-returns-in-None-clause-outcome g c =
-    usage_gives (check_only (command_of c.args.words.now)) (g.S.Source.left c.args.inp.now) None _ None (ap check_only (sym c.in-None.ensures.command))
+pub returns-in-Err-clause-outcome : goal.returns-in-Err-clause-outcome
+returns-in-Err-clause-outcome g c = gives_no_memory (check_only (command_of c.args.words.now)) _ _ _ _

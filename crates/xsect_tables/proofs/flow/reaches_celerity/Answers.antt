@@ -1,4 +1,4 @@
-use Rattle.std.proofs.Common.{◌≡◌, ◌∙◌, ap, int_le}
+use Rattle.std.proofs.Common.{◌∙◌, ap, int_le}
 use Rattle.std.proofs.lemmas.Int.{to_z-of_z}
 use Rattle.fixed_num.specs.Roots.{root2_of}
 use Rattle.fixed_num.proofs.Bounds.{within_between, between_up, fits128}

@@ -7,7 +7,7 @@ use Rattle.fixed_num.proofs.Bounds.{between_number, between_mul, between_quo_by,
 use Rattle.xsect_tables.specs.NormalFlow.{slope_of}
 use Rattle.xsect_tables.proofs.FlowLemmas.{least_drop, slope-between}
 use Rattle.xsect_tables.proofs.flow.slope.Goals as goal
-use Rattle.xsect_tables.proofs.flow.slope.Goals.{After-quo, After-root2}
+use Rattle.xsect_tables.proofs.flow.slope.Goals.{After-quo, After-quick_root2}
 
 fall : (c : After-quo) → c.max.result ≡ int_max c.args.drop (pos 305)
 fall c = simp (to_z-of_z, c.ranges.drop) at c.max.ensures.value
@@ -26,13 +26,13 @@ small c =
     let q = between_quo_by 10_000 (between_mul (falls c) (between_number (pos 1_000_000_000_000))) c.requires.length.from tt in
     rw (steep c) (record { from = q.from; to = omega (arith, ints, q.to) })
 
-value : (c : After-root2) → c.max.result ≡ int_max c.args.drop (pos 305) → c.quo.result ≡ quo_of (c.max.result *ℤ pos 1_000_000_000_000) c.args.length → IsBetween (pos 0) c.quo.result (pos (10 ^ 19)) → c.root2.result ≡ slope_of c.args.drop c.args.length
+value : (c : After-quick_root2) → c.max.result ≡ int_max c.args.drop (pos 305) → c.quo.result ≡ quo_of (c.max.result *ℤ pos 1_000_000_000_000) c.args.length → IsBetween (pos 0) c.quo.result (pos (10 ^ 19)) → c.quick_root2.result ≡ slope_of c.args.drop c.args.length
 unfolding slope_of
 value c m q s =
-    let root = simp (to_z-of_z, fits128 (within_between s) tt) at c.root2.ensures.value in
+    let root = simp (to_z-of_z, fits128 (within_between s) tt) at c.quick_root2.ensures in
     cc (m, q, root)
 
-range : (c : After-root2) → c.root2.result ≡ slope_of c.args.drop c.args.length → IsBetween (pos 0) c.root2.result (pos (2 * 10 ^ 9))
+range : (c : After-quick_root2) → c.quick_root2.result ≡ slope_of c.args.drop c.args.length → IsBetween (pos 0) c.quick_root2.result (pos (2 * 10 ^ 9))
 range c v = rw v (slope-between c.requires.drop c.requires.length)
 
 pub overflow_cast-result : goal.overflow_cast-result

@@ -1,7 +1,6 @@
-use Rattle.std.proofs.Common.{◌≡◌, ◌≤◌, FitsSigned, rules, pos, ◌≤ℤ◌, arith}
-use Rattle.std.specs.Int.{w64}
-use Rattle.std.proofs.lemmas.Int.{ints, to_z-of_z}
-use Rattle.fixed_num.specs.Ranges.{IsBetween, cut_of}
+use Rattle.std.proofs.Common.{◌≡◌, pos, arith}
+use Rattle.std.proofs.lemmas.Int.{to_z-of_z}
+use Rattle.fixed_num.specs.Ranges.{cut_of}
 use Rattle.fixed_num.proofs.Bounds.{within_between, fits64}
 use Rattle.xsect_tables.specs.SectionTable.{entry}
 use Rattle.xsect_tables.proofs.LookUpLemmas.{height_between, depth_small, depth_within, depth_around}

@@ -6,15 +6,15 @@ use Rattle.fixed_num.proofs.Bounds.{within_mul, within_number, within_between, f
 use Rattle.xsect_tables.proofs.GridLemmas.{within_full}
 use Rattle.xsect_tables.proofs.WidthLemmas.{chord-between, circle-between, rest-between}
 use Rattle.xsect_tables.proofs.rows.circle_width.Goals as goal
-use Rattle.xsect_tables.proofs.rows.circle_width.Goals.{After-root2}
+use Rattle.xsect_tables.proofs.rows.circle_width.Goals.{After-quick_root2}
 
-chord : (c : After-root2) → c.root2.result ≡ root2_of (c.args.y *ℤ (c.args.full -ℤ c.args.y))
+chord : (c : After-quick_root2) → c.quick_root2.result ≡ root2_of (c.args.y *ℤ (c.args.full -ℤ c.args.y))
 chord c =
     let y = within_between (within_full c.requires.full c.requires.depth) in
     let rest = within_between (rest-between c.requires.full c.requires.depth) in
-    simp (to_z-of_z, c.ranges.y, fits_wider _ c.ranges.y, c.ranges.full, fits64 rest tt, fits128 rest tt, fits128 (within_mul y rest) tt) at c.root2.ensures.value
+    simp (to_z-of_z, c.ranges.y, fits_wider _ c.ranges.y, c.ranges.full, fits64 rest tt, fits128 rest tt, fits128 (within_mul y rest) tt) at c.quick_root2.ensures
 
-small : (c : After-root2) → IsBetween (pos 0) c.root2.result (pos (10 ^ 9))
+small : (c : After-quick_root2) → IsBetween (pos 0) c.quick_root2.result (pos (10 ^ 9))
 small c = rw (chord c) (chord-between c.requires.full c.requires.depth)
 
 pub overflow_mul-result : goal.overflow_mul-result

@@ -1,4 +1,4 @@
-use Rattle.std.proofs.Common.{◌≡◌, ◌∙◌, ◌*◌, ◌^◌, List, ℤ, pos, ◌+ℤ◌, slice_index_or, slice_set, ap, subst, sym, arith}
+use Rattle.std.proofs.Common.{◌≡◌, ◌∙◌, ◌*◌, ◌^◌, List, ℤ, ◌+ℤ◌, slice_set, ap, subst, sym, arith}
 use Rattle.std.proofs.lemmas.Int.{to_z-of_z}
 use Rattle.fixed_num.specs.Ranges.{IsWithin}
 use Rattle.fixed_num.proofs.Bounds.{within_add, within_between, fits64}

@@ -1,11 +1,11 @@
-use Rattle.std.proofs.Common.{◌≡◌, ◌*◌, ◌^◌, ℤ, pos, sym, subst}
+use Rattle.std.proofs.Common.{◌≡◌, ◌^◌, ℤ, pos, sym, subst}
 use Rattle.std.proofs.lemmas.Int.{to_z-of_z}
 use Rattle.fixed_num.specs.Ranges.{IsBetween}
 use Rattle.fixed_num.proofs.Bounds.{within_between, within_add, within_mul, within_number, fits64, fits128, fits_wider}
 use Rattle.xsect_tables.specs.SectionTable.{sides_of}
 use Rattle.xsect_tables.proofs.StripLemmas.{squares_from_zero, sides_between}
 use Rattle.xsect_tables.proofs.rows.sides.Goals as goal
-use Rattle.xsect_tables.proofs.rows.sides.Goals.{After-root2}
+use Rattle.xsect_tables.proofs.rows.sides.Goals.{After-quick_root2}
 
 pub overflow_mul-rise-2 : goal.overflow_mul-rise-2
 overflow_mul-rise-2 c =
@@ -19,22 +19,22 @@ overflow_add-rise c =
     let s = within_mul c.requires.spread c.requires.spread in
     simp (to_z-of_z, c.ranges.rise, fits_wider _ c.ranges.rise, c.ranges.spread, fits_wider _ c.ranges.spread, fits128 square tt, fits128 four tt, fits128 s tt) (fits128 (within_add four s) tt)
 
-pub root2-requires : goal.root2-requires
-root2-requires c =
+pub quick_root2-requires : goal.quick_root2-requires
+quick_root2-requires c =
     let square = within_mul c.requires.rise c.requires.rise in
     let four = within_mul (within_number 4) square in
     let s = within_mul c.requires.spread c.requires.spread in
     simp (to_z-of_z, c.ranges.rise, fits_wider _ c.ranges.rise, c.ranges.spread, fits_wider _ c.ranges.spread, fits128 square tt, fits128 four tt, fits128 s tt, fits128 (within_add four s) tt) (squares_from_zero c.args.rise c.args.spread)
 
-value : (c : After-root2) → c.root2.result ≡ sides_of c.args.rise c.args.spread
+value : (c : After-quick_root2) → c.quick_root2.result ≡ sides_of c.args.rise c.args.spread
 unfolding sides_of
 value c =
     let square = within_mul c.requires.rise c.requires.rise in
     let four = within_mul (within_number 4) square in
     let s = within_mul c.requires.spread c.requires.spread in
-    simp (to_z-of_z, c.ranges.rise, fits_wider _ c.ranges.rise, c.ranges.spread, fits_wider _ c.ranges.spread, fits128 square tt, fits128 four tt, fits128 s tt, fits128 (within_add four s) tt) at c.root2.ensures.value
+    simp (to_z-of_z, c.ranges.rise, fits_wider _ c.ranges.rise, c.ranges.spread, fits_wider _ c.ranges.spread, fits128 square tt, fits128 four tt, fits128 s tt, fits128 (within_add four s) tt) at c.quick_root2.ensures
 
-range : (c : After-root2) → IsBetween (pos 0) c.root2.result (pos (10 ^ 12))
+range : (c : After-quick_root2) → IsBetween (pos 0) c.quick_root2.result (pos (10 ^ 12))
 range c = subst (λ (z : ℤ). IsBetween (pos 0) z (pos (10 ^ 12))) (sym (value c)) (sides_between c.requires.rise c.requires.spread)
 
 pub overflow_cast-result : goal.overflow_cast-result

@@ -1,5 +1,4 @@
-use Rattle.std.proofs.Common.{◌≡◌, ◌∙◌, ℕ, ℤ, sym, subst, ap, arith}
-use Rattle.std.proofs.lemmas.Int.{ints}
+use Rattle.std.proofs.Common.{◌≡◌, sym, subst}
 use Rattle.run_engine.specs.Progress.{Progress, IsAt}
 use Rattle.run_engine.specs.States.{steps_of}
 use Rattle.run_engine.proofs.ReportLemmas.{tail_is}
@@ -8,13 +7,13 @@ use Rattle.run_engine.proofs.SubLemmas.{few_done}
 use Rattle.run_engine.proofs.run.Run.finish.Goals as goal
 
 pub put_figures-requires-clause-subs : goal.put_figures-requires-clause-subs
-put_figures-requires-clause-subs g c = sums_small c.self.invariant.0.ready (few_done c.self.invariant.0) c.self.invariant.0.rained
+put_figures-requires-clause-subs g c = sums_small c.self.invariant.0.ready c.self.invariant.0.hot (few_done c.self.invariant.0) c.self.invariant.0.rained
 
 pub returns-clause-bytes : goal.returns-clause-bytes
 returns-clause-bytes g c =
     let s = c.self.inside in
     let inside : Progress = record {
-      project = s.project;
+      start = s.start;
       nets = s.kept.nets;
       total = s.kept.total.total;
       nodes = s.kept.sums.nodes;
@@ -22,8 +21,9 @@ returns-clause-bytes g c =
       outfalls = s.kept.outfalls.outfalls;
       subs = s.kept.subs.subs;
       counts = s.kept.counts;
+      last = s.last;
     } in
     let here : c.args.self.now ≡ inside = sym c.self.view_is in
-    let at = subst (λ (p : Progress). IsAt p (steps_of p.project)) here c.requires in
+    let at = subst (λ (p : Progress). IsAt p (steps_of p.start)) here c.requires in
     let bytes = rw c.total-total.ensures.value at c.put_figures.ensures.bytes in
-    rw (here, sym (tail_is inside (steps_of inside.project) at)) bytes
+    rw (here, sym (tail_is inside (steps_of inside.start) at)) bytes

@@ -1,4 +1,4 @@
-use Rattle.std.proofs.Common.{rules, ◌≡◌, ◌∙◌, sym, subst, FitsSigned, w64}
+use Rattle.std.proofs.Common.{rules, ◌≡◌, sym, subst, FitsSigned, w64}
 use Rattle.std.proofs.lemmas.Int.{to_z-of_z}
 use Rattle.run_engine.specs.Progress.{Progress, IsAt}
 use Rattle.run_engine.specs.States.{steps_of}
@@ -10,7 +10,7 @@ pub returns-clause-bytes : goal.returns-clause-bytes
 returns-clause-bytes g c =
     let s = c.self.inside in
     let inside : Progress = record {
-      project = s.project;
+      start = s.start;
       nets = s.kept.nets;
       total = s.kept.total.total;
       nodes = s.kept.sums.nodes;
@@ -18,10 +18,11 @@ returns-clause-bytes g c =
       outfalls = s.kept.outfalls.outfalls;
       subs = s.kept.subs.subs;
       counts = s.kept.counts;
+      last = s.last;
     } in
     let here : c.args.self.now ≡ inside = sym c.self.view_is in
-    let at = subst (λ (p : Progress). IsAt p (steps_of p.project)) here c.requires in
-    let last = steps_at inside (steps_of s.project) at in
+    let at = subst (λ (p : Progress). IsAt p (steps_of p.start)) here c.requires in
+    let last = steps_at inside (steps_of s.start) at in
     let moment : FitsSigned w64 s.kept.moment = search rules in
-    let line = last_is s.project s.kept.counts.steps s.since s.kept.moment c.self.invariant.1 c.self.invariant.0.clock.same in
+    let line = last_is s.start s.kept.counts.steps s.since s.kept.moment c.self.invariant.1 c.self.invariant.0.clock.same in
     rw (here, sym last, sym line) (simp (to_z-of_z, moment) at c.put_last_line.ensures.bytes)

@@ -1,4 +1,4 @@
-use Rattle.std.proofs.Common.{◌≡◌, ◌*◌, ◌^◌, FitsSigned, ap, pos, rules, subst, arith}
+use Rattle.std.proofs.Common.{◌≡◌, ◌^◌, FitsSigned, ap, pos, rules, subst, arith}
 use Rattle.std.specs.Int.{w64, int_min}
 use Rattle.std.proofs.lemmas.Int.{to_z-of_z}
 use Rattle.fixed_num.specs.Ranges.{IsBetween}

@@ -1,0 +1,6 @@
+mod Bridge
+mod Looks
+mod Rules
+mod States
+mod Turns
+mod ValueLemmas

@@ -1,0 +1,4 @@
+pub mod ClapLine
+pub mod CommandWords
+pub mod Plain
+pub mod Words

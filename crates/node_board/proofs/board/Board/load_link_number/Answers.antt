@@ -1,0 +1,14 @@
+use Rattle.std.proofs.Common.{◌+◌}
+use Rattle.phase_machine.specs.Items.{link_input}
+use Rattle.phase_machine.specs.Places.{written, other}
+use Rattle.node_board.specs.Shows.{work_of}
+use Rattle.node_board.proofs.LoadLemmas.{link_loads_next}
+use Rattle.node_board.proofs.Calls.{input_is}
+use Rattle.node_board.proofs.board.Board.load_link_number.Goals as goal
+
+pub load_signed-requires-clause-next : goal.load_signed-requires-clause-next
+load_signed-requires-clause-next g c =
+    link_loads_next (g.met.P.PhaseLaw.good c.args.self.now.law) (work_of c.args.seat.now.view) c.args.k c.requires.few
+    _ c.link_input-word.result c.requires.at.item c.requires.at
+    (input_is g.P.PhaseLaw.law (λ law tag item. link_input law (other (written tag)) item c.args.k + 1) c.self.view_is c.seat.view_is
+    c.seat.inside.phase c.seat.inside.item c.seat.invariant.2 c.seat.invariant.3 c.link_input-word.result c.link_input-word.ensures)
