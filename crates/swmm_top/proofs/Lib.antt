@@ -1,3 +1,4 @@
+mod CompleteLemmas
 mod HotLemmas
 mod InputLemmas
 mod LeavesLemmas

@@ -38,7 +38,7 @@ lines_refused task lines hotstart faults some is =
     (λ _. ap (λ l. refused (line_faults_report l)) is, λ bare. absurd (some bare))
 
 -- what lines without a fault give
-lines_meant : (task : Task) (lines : List Line) (hotstart : List ℕ) (project : Project) → line_faults lines ≡ []
+pub lines_meant : (task : Task) (lines : List Line) (hotstart : List ℕ) (project : Project) → line_faults lines ≡ []
     → Means lines project → IsLinesOutcome task lines hotstart (project_outcome task project hotstart)
 unfolding IsLinesOutcome
 lines_meant task lines hotstart project bare means = (λ some. absurd (some bare), λ _. (project, means, refl))
@@ -63,7 +63,7 @@ both_equal true P Q P' Q' R p q h k = p h k
 both_equal false P Q P' Q' R p q h k = q h k
 
 -- an input has one outcome
-input_one : (task : Task) (input hotstart : List ℕ) (a b : Outcome) → IsInputOutcome task input hotstart a
+pub input_one : (task : Task) (input hotstart : List ℕ) (a b : Outcome) → IsInputOutcome task input hotstart a
     → IsInputOutcome task input hotstart b → a ≡ b
 unfolding IsInputOutcome
 input_one task input hotstart a b p q =
@@ -74,7 +74,7 @@ not_lt : (m n : ℕ) → n ≤ m → nat_lt m n ≡ false
 not_lt m n few = grind (arith, nat_tests)
 
 -- an input within the limit gives what its lines give; another is too long
-input_short : (task : Task) (input hotstart : List ℕ) (given : Outcome) → length input ≤ input_limit
+pub input_short : (task : Task) (input hotstart : List ℕ) (given : Outcome) → length input ≤ input_limit
     → IsLinesOutcome task (lines_of input) hotstart given → IsInputOutcome task input hotstart given
 unfolding IsInputOutcome
 input_short task input hotstart given few p =

@@ -1,4 +1,5 @@
 pub mod Answers
+pub mod Complete
 pub mod Input
 pub mod Names
 pub mod Outcome

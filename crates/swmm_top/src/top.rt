@@ -2,6 +2,7 @@
 ghost use Rattle.std.specs.Prelude.{◌≡◌, ◌⊎◌, None, Ok, true, false, IsErrOf};
 ghost use Rattle.command_words.specs.CommandWords.{command_of};
 ghost use Rattle.fault_ports.specs.Causes.{no_faults};
+ghost use Rattle.swmm_top.specs.Complete.{Completes, SomeFailed};
 ghost use Rattle.swmm_top.specs.Answers.{BeforeWriting, GivesOutcome, HasCauses, ReadsHotstart, ReadsInput};
 ghost use Rattle.swmm_top.specs.Uses.{check_only, keeps_hotstart, reads_hotstart, reads_input, run_only};
 
@@ -31,6 +32,11 @@ pub fn run_alone_top<S: Source, H: Source, W: Sink, K: Sink>(
     ensures usage { result ≡ Ok Status.Usage → run_only (command_of words.now) ≡ None }
     ensures no_command { run_only (command_of words.now) ≡ None
         → (result ≡ Ok Status.Usage) ⊎ IsErrOf result TopFault.OutOfMemory }
+    ensures complete { Completes (run_only (command_of words.now))
+        (S.left inp.old) (H.left hot_in.old) (W.held rpt.old) (W.held rpt.new)
+        (K.held hot_out.old) (K.held hot_out.new)
+        (SomeFailed (S.faults inp.old) (S.faults inp.new) (H.faults hot_in.old) (H.faults hot_in.new)
+        (W.faults rpt.old) (W.faults rpt.new) (K.faults hot_out.old) (K.faults hot_out.new)) result }
 
     // A fault has its cause in the port's count.
     ensures causes { HasCauses (S.faults inp.old) (S.faults inp.new) (H.faults hot_in.old) (H.faults hot_in.new)
@@ -70,6 +76,10 @@ pub fn check_top<S: Source, W: Sink>(
     ensures usage { result ≡ Ok Status.Usage → check_only (command_of words.now) ≡ None }
     ensures no_command { check_only (command_of words.now) ≡ None
         → (result ≡ Ok Status.Usage) ⊎ IsErrOf result TopFault.OutOfMemory }
+    ensures complete { Completes (check_only (command_of words.now))
+        (S.left inp.old) None (W.held rpt.old) (W.held rpt.new) None None
+        (SomeFailed (S.faults inp.old) (S.faults inp.new) no_faults no_faults
+        (W.faults rpt.old) (W.faults rpt.new) no_faults no_faults) result }
 
     // A fault has its cause in the port's count.
     ensures causes { HasCauses (S.faults inp.old) (S.faults inp.new) no_faults no_faults
@@ -108,6 +118,11 @@ pub fn swmm_top<R: Threads + Wait + Sync, S: Source, H: Source, W: Sink, K: Sink
     ensures usage { result ≡ Ok Status.Usage → command_of words.now ≡ None }
     ensures no_command { command_of words.now ≡ None
         → (result ≡ Ok Status.Usage) ⊎ IsErrOf result TopFault.OutOfMemory }
+    ensures complete { Completes (command_of words.now)
+        (S.left inp.old) (H.left hot_in.old) (W.held rpt.old) (W.held rpt.new)
+        (K.held hot_out.old) (K.held hot_out.new)
+        (SomeFailed (S.faults inp.old) (S.faults inp.new) (H.faults hot_in.old) (H.faults hot_in.new)
+        (W.faults rpt.old) (W.faults rpt.new) (K.faults hot_out.old) (K.faults hot_out.new)) result }
 
     // A fault has its cause in the port's count.
     ensures causes { HasCauses (S.faults inp.old) (S.faults inp.new) (H.faults hot_in.old) (H.faults hot_in.new)

@@ -1,6 +1,7 @@
 -- What words give, by their work.
-use Rattle.std.proofs.Common.{◌∙◌, sym}
+use Rattle.std.proofs.Common.{◌∙◌, inl, refl, sym}
 use Rattle.command_words.specs.CommandWords.{command_of}
+use Rattle.swmm_top.proofs.CompleteLemmas.{completes, some_failed}
 use Rattle.swmm_top.proofs.TopLemmas.{gives_no_memory, gives_usage, gives_words, is_command, is_none, no_use, not_usage, uses_is}
 use Rattle.swmm_top.specs.Uses.{work_keeps, work_reads, work_resumes}
 use Rattle.swmm_top.proofs.top.swmm_top.Goals as goal
@@ -37,3 +38,17 @@ returns-in-Ok-None-clause-outcome g c = gives_usage (command_of c.args.words.now
 
 pub returns-in-Err-clause-outcome : goal.returns-in-Err-clause-outcome
 returns-in-Err-clause-outcome g c = gives_no_memory (command_of c.args.words.now) _ _ _ _
+
+pub returns-in-Ok-Some-clause-complete : goal.returns-in-Ok-Some-clause-complete
+returns-in-Ok-Some-clause-complete g c = completes (command_of c.args.words.now) _ _ _ _ _ _ _ _
+    (gives_words (command_of c.args.words.now) c.in-Ok-Some.work (rw c.in-Ok-Some.field-0-is at c.in-Ok-Some.ensures) _ _ _ _ _ _ _ c.do_work.ensures.outcome)
+    (some_failed _ _ _ _ _ _ _ _ _ c.do_work.ensures.faults c.do_work.ensures.read_input c.do_work.ensures.read_hotstart
+    c.do_work.ensures.ends.report c.do_work.ensures.ends.hotstart)
+
+pub returns-in-Ok-None-clause-complete : goal.returns-in-Ok-None-clause-complete
+returns-in-Ok-None-clause-complete g c = completes (command_of c.args.words.now) _ _ _ _ _ _ _ _
+    (gives_usage (command_of c.args.words.now) (rw c.in-Ok-None.field-0-is at c.in-Ok-None.ensures) _ _ _ _) tt
+
+pub returns-in-Err-clause-complete : goal.returns-in-Err-clause-complete
+returns-in-Err-clause-complete g c = completes (command_of c.args.words.now) _ _ _ _ _ _ _ _
+    (gives_no_memory (command_of c.args.words.now) _ _ _ _) (inl refl)
