@@ -28,7 +28,7 @@ use Rattle.swmm_top.proofs.OutcomeLemmas.{input_one, input_short, lines_meant}
 -- a run that begins with a state is done
 begun_is_done : (keeps : Bool) (project : Project) (state : Result HotState HotRead) → IsOk state → (begun keeps project state).status ≡ Done
 begun_is_done keeps project (Ok state) good = refl
-begun_is_done keeps project (Err refusal) good = absurd good
+begun_is_done keeps project (Err refusal) good = let never : ⊥ = cc in absurd never
 
 run_is_done : (resumes keeps : Bool) (project : Project) (hotstart : List ℕ) → (resumes ≡ true → IsOk (state_or (hot_read_of project hotstart)))
     → (run_of resumes keeps project hotstart).status ≡ Done
@@ -73,12 +73,12 @@ unfolding IsOutcome
 completes words left hot a b h₀ h failed (Err fault) said why command project input hotstart is read resumed good good_hot = inr why
 completes words left hot a b h₀ h failed (Ok status) said why command project input hotstart is read resumed good good_hot =
     let given = of_told (read_of (reads_hotstart words) hot) hotstart
-        (λ hotstart. (given : Outcome) × IsOutcome words input hotstart given × Leaves given a b h₀ h (Ok status)) resumed
-        (of_told (read_of (reads_input words) left) input
-        (λ input. IfSome (read_of (reads_hotstart words) hot)
-        (λ hotstart. (given : Outcome) × IsOutcome words input hotstart given × Leaves given a b h₀ h (Ok status))) read said) in
+    (λ hotstart. (given : Outcome) × IsOutcome words input hotstart given × Leaves given a b h₀ h (Ok status)) resumed
+    (of_told (read_of (reads_input words) left) input
+    (λ input. IfSome (read_of (reads_hotstart words) hot)
+    (λ hotstart. (given : Outcome) × IsOutcome words input hotstart given × Leaves given a b h₀ h (Ok status))) read said) in
     let of_input : IsInputOutcome command.task (input_for command.task input) hotstart given.0 =
-        subst (λ w. IsOutcome w input hotstart given.0) is given.1 in
+    subst (λ w. IsOutcome w input hotstart given.0) is given.1 in
     inl (work_is_done command.task project hotstart given.0 a b h₀ h status
     (good_is_answered command.task project (input_for command.task input) hotstart given.0 good of_input) good_hot given.2)
 
@@ -86,7 +86,7 @@ completes words left hot a b h₀ h failed (Ok status) said why command project 
 -- a fault of four ports, each of which told it
 pub some_failed : (inp₀ inp hot_in₀ hot_in rpt₀ rpt hot_out₀ hot_out : Faults) (result : Result Status TopFault)
     → OnErr result (IsErrOf result OutOfMemory ⊎ (IsErrOf result (Read Inp) ⊎ (IsErrOf result (Read HotIn)
-      ⊎ (IsErrOf result (Write Rpt) ⊎ IsErrOf result (Write HotOut)))))
+    ⊎ (IsErrOf result (Write Rpt) ⊎ IsErrOf result (Write HotOut)))))
     → FailsOnlyAt (Read Inp) inp₀ inp result → FailsOnlyAt (Read HotIn) hot_in₀ hot_in result
     → FailsOnlyAt (Write Rpt) rpt₀ rpt result → FailsOnlyAt (Write HotOut) hot_out₀ hot_out result
     → OnErr result (IsErrOf result OutOfMemory ⊎ SomeFailed inp₀ inp hot_in₀ hot_in rpt₀ rpt hot_out₀ hot_out)
