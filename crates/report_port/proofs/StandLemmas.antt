@@ -1,5 +1,5 @@
 -- How a report stands after a piece, and at its end.
-use Rattle.std.proofs.Common.{◌≡◌, ℕ, ◌+◌, ◌-◌, ◌≤◌, min, Bool, true, false, List, [], ◌++◌, length, take, Option, None, Some}
+use Rattle.std.proofs.Common.{◌≡◌, ℕ, ◌-◌, ◌≤◌, true, false, List, [], ◌++◌, length, take, Option, None, Some}
 use Rattle.std.proofs.Common.{Result, Ok, Err, refl, sym, ap, ◌∙◌, subst, append-nil, append_assoc, arith, length-append, length-take}
 use Rattle.std.proofs.Math.Seq.{take-append_seam}
 use Rattle.std.proofs.lemmas.List.{take-append-le}
@@ -7,7 +7,7 @@ use Rattle.std.specs.Io.KnownBytes.{Appends, append_known}
 use Rattle.std.specs.Prelude.{is_err}
 use Rattle.fault_ports.proofs.OutputLemmas.{appends_then, prefix_after}
 use Rattle.fault_ports.specs.Causes.{HasCause, HasFailed}
-use Rattle.fault_ports.specs.Output.{AppendsPrefix, Puts}
+use Rattle.fault_ports.specs.Output.{AppendsPrefix}
 use Rattle.fault_ports.specs.declared.faults.Faults.{Faults}
 use Rattle.report_port.specs.Pages.{Passes}
 use Rattle.report_port.specs.Standing.{Goes, Stands, Stopped, grown, put_of, told_since}

@@ -1,5 +1,5 @@
 // A report that takes pieces, and says once whether all went out.
-ghost use Rattle.std.specs.Prelude.{◌≡◌, ◌++◌, ℕ, List, Option, [], true, false};
+ghost use Rattle.std.specs.Prelude.{◌≡◌, ◌++◌, ℕ, List, Option, [], true, false, OnOk};
 ghost use Rattle.fault_ports.specs.Causes.{HasCause};
 ghost use Rattle.fault_ports.specs.Output.{Puts};
 ghost use Rattle.fault_ports.specs.declared.faults.Faults.{Faults};
@@ -66,6 +66,7 @@ impl<'a, W: Sink> Report<'a, W> {
     /// failed, is put so too.
     pub fn end(&mut self) -> Result<(), Failed>
         ensures kept { Adds self.old self.new [] }
+        ensures failed { OnOk result (self.old.failed ≡ false) }
         ensures part { (part rest : List ℕ) → self.old.told.text ++ rest ≡ part
             → (self.old.failed ≡ false → rest ≡ [])
             → Puts (W.held self.new.start.value) (W.held self.new.to.now) part result }

@@ -1,4 +1,4 @@
-use Rattle.report_port.proofs.StandLemmas.{goes_on, stays}
+use Rattle.report_port.proofs.StandLemmas.{goes_on}
 use Rattle.report_port.proofs.report.add_parts.Goals as goal
 
 pub returns-clause-stands : goal.returns-clause-stands
