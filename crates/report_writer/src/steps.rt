@@ -18,13 +18,13 @@ pub fn add_steps_heading<W: Sink>(report: &mut Report<'_, W>)
 
 /// Puts the step line of a moment (ms since the start) with the account since the line before, whose volumes at
 /// outfalls and of floods are within 10^37 mm³ (this project's profile).
-pub fn put_step_line<W: Sink>(to: &mut W, moment: &i64, account: &StepAccount) -> Result<(), Failed>
+pub fn put_step_line<W: Sink>(to: &mut W, moment: i64, account: &StepAccount) -> Result<(), Failed>
     requires { AreSmallLosses account.now }
-    ensures bytes { Puts (W.held to.old) (W.held to.new) (step_line moment.now account.now) result }
+    ensures bytes { Puts (W.held to.old) (W.held to.new) (step_line moment account.now) result }
     ensures cause { HasCause (W.faults to.old) (W.faults to.new) result }
 {
     let mut report = Report::new(to);
-    add_step_line(&mut report, moment, account);
+    add_step_line(&mut report, &moment, account);
     report.end()
 }
 

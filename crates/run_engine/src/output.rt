@@ -18,11 +18,7 @@ use report_writer::{RunCounts, RunFigures, add_step_line, put_whole_tail};
 use summaries::{OutfallSums, SubSums, Summaries};
 
 // Adds the line of the last state, where steps were made since the last step line.
-pub(crate) fn add_last_line<W: Sink>(
-    report: &mut Report<'_, W>,
-    moment: &i64,
-    since: &RunAccount,
-)
+pub(crate) fn add_last_line<W: Sink>(report: &mut Report<'_, W>, moment: &i64, since: &RunAccount)
     ensures { Adds report.old report.new (if eqb since.now.steps 0 then [] else step_line moment.now since.now.total) }
 {
     if since.is_empty() {
