@@ -1,5 +1,5 @@
 -- The step lines of the report of a run (this project's profile).
-use Rattle.std.specs.Prelude.{◌*◌, ◌^◌, ℕ, List, [], ◌∷◌, codes, ℤ, ◌+ℤ◌}
+use Rattle.std.specs.Prelude.{◌^◌, ℕ, List, [], ◌∷◌, codes, ℤ, ◌+ℤ◌}
 use Rattle.std.specs.Fmt.{signed_decimal}
 use Rattle.fixed_num.specs.Ranges.{IsWithin}
 use Rattle.net_types.specs.declared.account.StepAccount.{StepAccount}

@@ -1,5 +1,5 @@
 -- All sections that follow the step lines of the report of a run, in their order (this project's profile).
-use Rattle.std.specs.Prelude.{◌<◌, ◌*◌, ◌^◌, ℕ, List, ◌++◌, length}
+use Rattle.std.specs.Prelude.{◌<◌, ◌^◌, ℕ, List, ◌++◌, length}
 use Rattle.std.specs.List.{All}
 use Rattle.net_types.specs.declared.project.Project.{Project}
 use Rattle.runoff.specs.RunoffStep.{HasVolumesWithin}

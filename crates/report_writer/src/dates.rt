@@ -1,24 +1,42 @@
 // Date and time of day as a report writes them.
 ghost use Rattle.std.specs.Prelude.{◌≡◌, ℕ, ◌+◌, ◌/◌, ◌%◌, ◌<◌};
 ghost use Rattle.calendar_steps.specs.Moment.{IsCalendarMoment};
+ghost use Rattle.report_port.specs.Adding.{Adds};
 ghost use Rattle.report_writer.specs.DateTexts.{civil_text, clock_text, date_text, time_text};
 
 use calendar_steps::{Civil, civil_of};
+use fault_ports::Sink;
+use report_port::Report;
 
 const DAY: i64 = 86_400_000;
 
-/// The day of a moment, which is in ms from 1970-01-01 00:00:00, as `yyyy-mm-dd`.
+// Adds the day of a moment, which is in ms from 1970-01-01 00:00:00.
+pub(crate) fn add_date<W: Sink>(report: &mut Report<'_, W>, moment: &i64)
+    requires { IsCalendarMoment moment.now }
+    ensures { Adds report.old report.new (date_text moment.now) }
+{
+    report.add(&date_bytes(*moment));
+}
+
+// Adds the time of day of a moment.
+pub(crate) fn add_time<W: Sink>(report: &mut Report<'_, W>, moment: &i64)
+    ensures { Adds report.old report.new (time_text moment.now) }
+{
+    report.add(&time_bytes(*moment));
+}
+
+// The day of a moment, which is in ms from 1970-01-01 00:00:00, as `yyyy-mm-dd`.
 #[tactic(auto, unfolding(crate::specs::DateTexts::date_text))]
-pub(crate) fn date_bytes(moment: i64) -> [u8; 10]
+fn date_bytes(moment: i64) -> [u8; 10]
     requires { IsCalendarMoment moment }
     ensures { result ≡ date_text moment }
 {
     civil_bytes(&civil_of(moment.div_euclid(DAY)))
 }
 
-/// The time of day of a moment as `hh:mm:ss`.
+// The time of day of a moment as `hh:mm:ss`.
 #[tactic(auto, unfolding(crate::specs::DateTexts::time_text))]
-pub(crate) fn time_bytes(moment: i64) -> [u8; 8]
+fn time_bytes(moment: i64) -> [u8; 8]
     ensures { result ≡ time_text moment }
 {
     clock_bytes(moment.rem_euclid(DAY) as u32)

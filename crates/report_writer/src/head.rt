@@ -1,127 +1,89 @@
 // The head of the report of a run.
-ghost use Rattle.std.specs.Prelude.{◌≡◌, ◌++◌, pos};
+ghost use Rattle.std.specs.Prelude.{◌≡◌, pos};
 ghost use Rattle.std.specs.Ordering.{int_eq};
 ghost use Rattle.fault_ports.specs.Causes.{HasCause};
 ghost use Rattle.fault_ports.specs.Output.{Puts};
+ghost use Rattle.report_port.specs.Adding.{Adds};
 ghost use Rattle.report_writer.specs.DateTexts.{HasCalendarDates};
-ghost use Rattle.report_writer.specs.ReportSections.{options_section, part_line, report_line};
 ghost use Rattle.report_writer.specs.ReportSections.{times_lines, units_name, variable_line};
 ghost use Rattle.report_writer.specs.RunReport.{head_of};
-ghost use Rattle.report_writer.specs.Texts.{line_of, lines_of};
+ghost use Rattle.report_writer.specs.Texts.{lines_of};
 
-use crate::dates::{date_bytes, time_bytes};
-use crate::peaks::in_unit;
-use fault_ports::{Failed, Sink, put_all, put_parts};
+use crate::dates::{add_date, add_time};
+use crate::numbers::{add_number, add_value};
+use fault_ports::{Failed, Sink};
 use inp_values::{Quantity, unit_of};
-use itoa::Buffer;
-use net_types::{FlowUnits, Options, Project, Text};
+use net_types::{FlowUnits, List, Options, Project, Text};
+use report_port::Report;
 
 /// Puts the head of the report of a run: the title lines, the warnings, and the options of the run, up to the reporting
 /// step. Start and end of the run lie in the years 1900 to 2200 (this project's profile).
-#[tactic(auto, unfolding(crate::specs::RunReport::head_of))]
 pub fn put_head<W: Sink>(to: &mut W, project: &Project) -> Result<(), Failed>
     requires dates { HasCalendarDates project.now.options }
     ensures bytes { Puts (W.held to.old) (W.held to.new) (head_of project.now) result }
     ensures cause { HasCause (W.faults to.old) (W.faults to.new) result }
 {
-    match put_all(to, b"SWMM5-FX REPORT\n") {
-        Ok(()) => put_title(to, project),
-        Err(failed) => Err(failed),
-    }
+    let mut report = Report::new(to);
+    add_head(&mut report, project);
+    report.end()
 }
 
-// Puts the title lines, and what comes after them.
-fn put_title<W: Sink>(to: &mut W, project: &Project) -> Result<(), Failed>
+/// Adds the head of the report of a run, as [`put_head`] puts it.
+pub fn add_head<W: Sink>(report: &mut Report<'_, W>, project: &Project)
     requires dates { HasCalendarDates project.now.options }
-    ensures bytes { Puts (W.held to.old) (W.held to.new)
-        (lines_of project.now.title ++ (lines_of project.now.warnings
-        ++ options_section project.now.options)) result }
-    ensures cause { HasCause (W.faults to.old) (W.faults to.new) result }
+    ensures { Adds report.old report.new (head_of project.now) }
 {
-    let title = project.title.as_slice();
-    match put_lines(to, title) {
-        Ok(()) => put_warnings(to, project),
-        Err(failed) => Err(failed),
+    report.add(b"SWMM5-FX REPORT\n");
+    add_lines(report, &project.title);
+    add_lines(report, &project.warnings);
+    add_times(report, &project.options);
+    add_variable(report, &project.options);
+    report.add(b"Report Step ");
+    add_number(report, &project.options.report_ms);
+    report.add(b" ms\n");
+}
+
+// Adds each text on a line of its own.
+fn add_lines<W: Sink>(report: &mut Report<'_, W>, texts: &List<Text>)
+    ensures { Adds report.old report.new (lines_of texts.now) }
+{
+    for text in texts.as_slice() {
+        report.add(text.as_slice());
+        report.add(b"\n");
     }
 }
 
-// Puts the warnings, and what comes after them.
-fn put_warnings<W: Sink>(to: &mut W, project: &Project) -> Result<(), Failed>
-    requires dates { HasCalendarDates project.now.options }
-    ensures bytes { Puts (W.held to.old) (W.held to.new)
-        (lines_of project.now.warnings ++ options_section project.now.options) result }
-    ensures cause { HasCause (W.faults to.old) (W.faults to.new) result }
-{
-    let warnings = project.warnings.as_slice();
-    match put_lines(to, warnings) {
-        Ok(()) => put_options(to, &project.options),
-        Err(failed) => Err(failed),
-    }
-}
-
-fn put_options<W: Sink>(to: &mut W, options: &Options) -> Result<(), Failed>
+// Adds the flow units, when the run starts and ends, and the routing step.
+fn add_times<W: Sink>(report: &mut Report<'_, W>, options: &Options)
     requires { HasCalendarDates options.now }
-    ensures bytes { Puts (W.held to.old) (W.held to.new) (options_section options.now) result }
-    ensures cause { HasCause (W.faults to.old) (W.faults to.new) result }
+    ensures { Adds report.old report.new (times_lines options.now) }
 {
-    match put_times(to, options) {
-        Ok(()) => put_lengths(to, options),
-        Err(failed) => Err(failed),
-    }
+    report.add(b"\nAnalysis Options\nFlow Units ");
+    add_units(report, &options.units);
+    report.add(b"\nStart ");
+    add_date(report, &options.start);
+    report.add(b" ");
+    add_time(report, &options.start);
+    report.add(b"\nEnd ");
+    add_date(report, &options.finish);
+    report.add(b" ");
+    add_time(report, &options.finish);
+    report.add(b"\nRouting Step ");
+    add_number(report, &options.step_ms);
+    report.add(b" ms\n");
 }
 
-// The flow units, when the run starts and ends, and the routing step.
-fn put_times<W: Sink>(to: &mut W, options: &Options) -> Result<(), Failed>
-    requires { HasCalendarDates options.now }
-    ensures bytes { Puts (W.held to.old) (W.held to.new) (times_lines options.now) result }
-    ensures cause { HasCause (W.faults to.old) (W.faults to.new) result }
-{
-    let start_date = date_bytes(options.start);
-    let start_time = time_bytes(options.start);
-    let end_date = date_bytes(options.finish);
-    let end_time = time_bytes(options.finish);
-    let mut step = Buffer::new();
-    put_parts(
-        to,
-        &[
-            b"\nAnalysis Options\nFlow Units ",
-            name_of(&options.units),
-            b"\nStart ",
-            &start_date,
-            b" ",
-            &start_time,
-            b"\nEnd ",
-            &end_date,
-            b" ",
-            &end_time,
-            b"\nRouting Step ",
-            step.format(options.step_ms).as_bytes(),
-            b" ms\n",
-        ],
-    )
-}
-
-// The part of the travel time of variable steps, and the report step.
-fn put_lengths<W: Sink>(to: &mut W, options: &Options) -> Result<(), Failed>
-    ensures bytes { Puts (W.held to.old) (W.held to.new)
-        (variable_line options.now ++ report_line options.now.report_ms) result }
-    ensures cause { HasCause (W.faults to.old) (W.faults to.new) result }
-{
-    match put_variable(to, options) {
-        Ok(()) => put_report_step(to, options.report_ms),
-        Err(failed) => Err(failed),
-    }
-}
-
-fn put_variable<W: Sink>(to: &mut W, options: &Options) -> Result<(), Failed>
-    ensures bytes { Puts (W.held to.old) (W.held to.new) (variable_line options.now) result }
-    ensures cause { HasCause (W.faults to.old) (W.faults to.new) result }
+// Adds the part of the least travel time that a step of variable length has, in other runs nothing.
+fn add_variable<W: Sink>(report: &mut Report<'_, W>, options: &Options)
+    ensures { Adds report.old report.new (variable_line options.now) }
 {
     if is_constant(options) {
-        put_parts(to, &[])
-    } else {
-        put_part(to, options.units, options.variable6)
+        return;
     }
+    let unit = unit_of(options.units, Quantity::Coefficient);
+    report.add(b"Variable Step ");
+    add_value(report, &options.variable6, &unit);
+    report.add(b"\n");
 }
 
 // Whether all steps have the length of the options.
@@ -131,29 +93,10 @@ fn is_constant(options: &Options) -> bool
     options.variable6 == 0
 }
 
-// The line of a part of the travel time.
-fn put_part<W: Sink>(to: &mut W, units: FlowUnits, part: i64) -> Result<(), Failed>
-    ensures bytes { Puts (W.held to.old) (W.held to.new) (part_line units part) result }
-    ensures cause { HasCause (W.faults to.old) (W.faults to.new) result }
+fn add_units<W: Sink>(report: &mut Report<'_, W>, units: &FlowUnits)
+    ensures { Adds report.old report.new (units_name units.now) }
 {
-    let unit = unit_of(units, Quantity::Coefficient);
-    let mut text = [0; 64];
-    put_parts(
-        to,
-        &[b"Variable Step ", in_unit(part, &unit, &mut text), b"\n"],
-    )
-}
-
-#[tactic(auto, unfolding(crate::specs::ReportSections::report_line))]
-fn put_report_step<W: Sink>(to: &mut W, report_ms: i64) -> Result<(), Failed>
-    ensures bytes { Puts (W.held to.old) (W.held to.new) (report_line report_ms) result }
-    ensures cause { HasCause (W.faults to.old) (W.faults to.new) result }
-{
-    let mut text = Buffer::new();
-    put_parts(
-        to,
-        &[b"Report Step ", text.format(report_ms).as_bytes(), b" ms\n"],
-    )
+    report.add(name_of(units));
 }
 
 fn name_of(units: &FlowUnits) -> &'static [u8]
@@ -167,25 +110,4 @@ fn name_of(units: &FlowUnits) -> &'static [u8]
         FlowUnits::Lps => b"LPS",
         FlowUnits::Mld => b"MLD",
     }
-}
-
-// Puts each text on a line of its own.
-fn put_lines<W: Sink>(to: &mut W, texts: &[Text]) -> Result<(), Failed>
-    ensures bytes { Puts (W.held to.old) (W.held to.new) (lines_of texts.now) result }
-    ensures cause { HasCause (W.faults to.old) (W.faults to.new) result }
-{
-    for text in texts {
-        match put_line(to, text) {
-            Ok(()) => {}
-            Err(failed) => return Err(failed),
-        }
-    }
-    Ok(())
-}
-
-fn put_line<W: Sink>(to: &mut W, text: &Text) -> Result<(), Failed>
-    ensures bytes { Puts (W.held to.old) (W.held to.new) (line_of text.now) result }
-    ensures cause { HasCause (W.faults to.old) (W.faults to.new) result }
-{
-    put_parts(to, &[text.as_slice(), b"\n"])
 }

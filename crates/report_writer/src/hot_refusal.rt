@@ -2,11 +2,13 @@
 ghost use Rattle.std.specs.Prelude.{◌≡◌};
 ghost use Rattle.fault_ports.specs.Causes.{HasCause};
 ghost use Rattle.fault_ports.specs.Output.{Puts};
+ghost use Rattle.report_port.specs.Adding.{Adds};
 ghost use Rattle.report_writer.specs.HotRefusal.{at_byte, count_words, hot_refusal_report, number_for};
 
-use fault_ports::{Failed, Sink, put_parts};
+use crate::numbers::add_number;
+use fault_ports::{Failed, Sink};
 use hotstart::HotRead;
-use itoa::Buffer;
+use report_port::Report;
 
 const HEADING: &[u8] = b"SWMM5-FX REPORT\n\nInput Faults\nERROR 404 hotstart: ";
 
@@ -14,25 +16,33 @@ const HEADING: &[u8] = b"SWMM5-FX REPORT\n\nInput Faults\nERROR 404 hotstart: ";
 /// first number that isn't the project's. A good hotstart isn't refused, and nothing is put of it.
 ///
 /// Source: this project's profile.
-#[tactic(auto, unfolding(crate::specs::HotRefusal::hot_refusal_report))]
 pub fn put_hot_refusal<W: Sink>(to: &mut W, read: &HotRead) -> Result<(), Failed>
     ensures bytes { Puts (W.held to.old) (W.held to.new) (hot_refusal_report read.now) result }
     ensures cause { HasCause (W.faults to.old) (W.faults to.new) result }
 {
+    let mut report = Report::new(to);
+    add_hot_refusal(&mut report, read);
+    report.end()
+}
+
+#[tactic(auto, unfolding(crate::specs::HotRefusal::hot_refusal_report))]
+fn add_hot_refusal<W: Sink>(report: &mut Report<'_, W>, read: &HotRead)
+    ensures { Adds report.old report.new (hot_refusal_report read.now) }
+{
     match read {
-        HotRead::Good(_) => put_parts(to, &[]),
-        HotRead::BadMagic { place } => put_place(to, b"not a hotstart", *place),
-        HotRead::Ends { place } => put_place(to, b"ends", *place),
+        HotRead::Good(_) => {}
+        HotRead::BadMagic { place } => add_place(report, b"not a hotstart", *place),
+        HotRead::Ends { place } => add_place(report, b"ends", *place),
         HotRead::Count {
             what,
             file,
             project,
-        } => put_numbers(to, words_of_count(*what), *file, *project),
+        } => add_numbers(report, words_of_count(*what), *file, *project),
         HotRead::Kind { file, project } => {
-            put_numbers(to, b"kind of infiltration", *file, *project)
+            add_numbers(report, b"kind of infiltration", *file, *project)
         }
-        HotRead::BadValue { place } => put_place(to, b"value out of range", *place),
-        HotRead::GoesOn { place } => put_place(to, b"goes on", *place),
+        HotRead::BadValue { place } => add_place(report, b"value out of range", *place),
+        HotRead::GoesOn { place } => add_place(report, b"goes on", *place),
     }
 }
 
@@ -47,33 +57,26 @@ fn words_of_count(what: u32) -> &'static [u8]
     }
 }
 
-// Puts what is said of the byte of a place.
-fn put_place<W: Sink>(to: &mut W, words: &[u8], place: u64) -> Result<(), Failed>
-    ensures bytes { Puts (W.held to.old) (W.held to.new) (at_byte words.now place) result }
-    ensures cause { HasCause (W.faults to.old) (W.faults to.new) result }
+// Adds what is said of the byte of a place.
+fn add_place<W: Sink>(report: &mut Report<'_, W>, words: &[u8], place: u64)
+    ensures { Adds report.old report.new (at_byte words.now place) }
 {
-    let mut number = Buffer::new();
-    let number = number.format(place).as_bytes();
-    put_parts(to, &[HEADING, words, b" at byte ", number, b"\n"])
+    report.add(HEADING);
+    report.add(words);
+    report.add(b" at byte ");
+    add_number(report, &place);
+    report.add(b"\n");
 }
 
-// Puts what is said of a number of the file that isn't that of the project.
-fn put_numbers<W: Sink>(to: &mut W, words: &[u8], file: u32, own: u32) -> Result<(), Failed>
-    ensures bytes { Puts (W.held to.old) (W.held to.new) (number_for words.now file own) result }
-    ensures cause { HasCause (W.faults to.old) (W.faults to.new) result }
+// Adds what is said of a number of the file that isn't that of the project.
+fn add_numbers<W: Sink>(report: &mut Report<'_, W>, words: &[u8], file: u32, own: u32)
+    ensures { Adds report.old report.new (number_for words.now file own) }
 {
-    let mut number = Buffer::new();
-    let mut wanted = Buffer::new();
-    put_parts(
-        to,
-        &[
-            HEADING,
-            words,
-            b" ",
-            number.format(file).as_bytes(),
-            b" for ",
-            wanted.format(own).as_bytes(),
-            b"\n",
-        ],
-    )
+    report.add(HEADING);
+    report.add(words);
+    report.add(b" ");
+    add_number(report, &file);
+    report.add(b" for ");
+    add_number(report, &own);
+    report.add(b"\n");
 }

@@ -1,7 +1,9 @@
 // Parts of a report, beside texts that were worked out apart from the program.
-use crate::{put_runoff_continuity, put_step_line, put_steps_heading};
+use crate::totals::add_runoff;
+use crate::{add_step_line, add_steps_heading};
 use fault_ports::MemSink;
 use net_types::{List, StepAccount};
+use report_port::Report;
 use runoff::SubStep;
 use std::test::Fail;
 
@@ -15,8 +17,11 @@ fn a_step_line(rt: HostRuntime) -> Result<(), Fail> {
         error: -12_467_262_449,
     };
     let mut sink = MemSink::new(rt.alloc(), 4096, List::new(rt.alloc()), 64)?;
-    assert!(rt; put_steps_heading(&mut sink).is_ok());
-    assert!(rt; put_step_line(&mut sink, 900_000, &account).is_ok());
+    let mut report = Report::new(&mut sink);
+    add_steps_heading(&mut report);
+    add_step_line(&mut report, &900_000, &account);
+    assert!(rt; report.end().is_ok());
+    drop(report);
     assert_eq!(rt;
         sink.held(),
         b"\nStep Continuity (mm3)\n900000 146335380000 144769222449 14033420000 -12467262449\n".as_slice()
@@ -33,7 +38,10 @@ fn what_became_of_the_rain(rt: HostRuntime) -> Result<(), Fail> {
         stored: 381_587_043_250,
     };
     let mut sink = MemSink::new(rt.alloc(), 4096, List::new(rt.alloc()), 64)?;
-    assert!(rt; put_runoff_continuity(&mut sink, &total).is_ok());
+    let mut report = Report::new(&mut sink);
+    add_runoff(&mut report, &total);
+    assert!(rt; report.end().is_ok());
+    drop(report);
     assert_eq!(rt;
         sink.held(),
         b"\nRunoff Quantity Continuity (mm3)\nRain 1240000080000\nInfiltration 401863896000\n\

@@ -1,12 +1,10 @@
 -- The step lines of a run with one state more, and the account since the last of them.
 use Rattle.std.proofs.Common.{◌≡◌, ◌∙◌, ℕ, zero, suc, ◌+◌, ◌-◌, ◌<◌, ◌≤◌, Bool, true, false, eqb, if◌then◌else◌, List, [], ◌++◌, ℤ}
-use Rattle.std.proofs.Common.{refl, sym, ap, subst, arith, add-one, append-nil, append_assoc, Option}
+use Rattle.std.proofs.Common.{refl, sym, ap, subst, arith, add-one, append-nil, append_assoc}
 use Rattle.std.proofs.lemmas.Bool.Decides.{nat_tests}
 use Rattle.continuity.proofs.TotalLemmas.{total_none}
 use Rattle.continuity.specs.Run.{Running, nothing}
 use Rattle.continuity.specs.Sums.{total_of}
-use Rattle.fault_ports.proofs.OutputLemmas.{prefix_stays}
-use Rattle.fault_ports.specs.Output.{AppendsPrefix}
 use Rattle.report_writer.specs.StepLines.{step_line}
 use Rattle.run_engine.specs.Kept.{IsTotalFrom}
 use Rattle.run_engine.specs.Results.{account_at}
@@ -108,12 +106,11 @@ module _ (start : Start) where
             ∙ append_assoc (lines_until start k) before.0 (own_line start (k + m + 1)),
       )
 
-  pub prefix_later : (a b : Option (List ℕ)) (k later : ℕ) → k ≤ later → AppendsPrefix a b (lines_until start k) → AppendsPrefix a b (lines_until start later)
-  prefix_later a b k later h p =
+  pub lines_later : (k later : ℕ) → k ≤ later → (rest : List ℕ) × (lines_until start k ++ rest ≡ lines_until start later)
+  lines_later k later h =
       let rest = lines_begin k (later - k) in
       let e : k + (later - k) ≡ later = omega (arith, h) in
-      subst (λ (n : ℕ). AppendsPrefix a b (lines_until start n)) e
-      (subst (AppendsPrefix a b) (sym rest.1) (prefix_stays a b (lines_until start k) rest.0 p))
+      (rest.0, sym rest.1 ∙ ap (lines_until start) e)
 
   -- the line of the last state
   pub last_is : (k : ℕ) (running : Running) (moment : ℤ) → IsTotalFrom start (line_before start (k + 1)) k running → moment ≡ moment_at start k

@@ -1,39 +1,32 @@
--- The loop over the steps of a run, which puts the lines of its states.
-use Rattle.std.proofs.Common.{◌≡◌, ◌∙◌, ℕ, ◌+◌, ◌≤◌, List, Option, refl, sym, subst}
-use Rattle.std.proofs.KnownBytes.{Appends-nil, Appends-trans}
-use Rattle.std.specs.Io.KnownBytes.{Appends}
-use Rattle.fault_ports.proofs.OutputLemmas.{prefix_after}
-use Rattle.fault_ports.specs.Causes.{HasNotFailed}
-use Rattle.fault_ports.specs.Output.{AppendsPrefix}
-use Rattle.fault_ports.specs.declared.faults.Faults.{Faults}
+-- The loop over the steps of a run, which adds the lines of its states.
+use Rattle.std.proofs.Common.{◌≡◌, ◌∙◌, ℕ, ◌+◌, ◌≤◌, true, List, ◌++◌, refl, sym, ap, subst, append_assoc}
+use Rattle.report_port.proofs.Chain.{◌⨾◌, no_more, stops}
+use Rattle.report_port.specs.Adding.{Adds, AddsOrStops}
+use Rattle.report_port.specs.declared.report.Report.{Report}
 use Rattle.run_engine.specs.StepLines.{lines_until, own_line}
-use Rattle.run_engine.proofs.LineLemmas.{lines_next, lines_none, prefix_later}
+use Rattle.run_engine.proofs.LineLemmas.{lines_later, lines_next, lines_none}
 use Rattle.run_engine.specs.declared.start.Start.{Start}
 
-pub record HasPut (held₀ held : Option (List ℕ)) (faults₀ faults : Faults) (start₀ start : Start) (k : ℕ) : Type 0 where
+pub record HasAdded {W : Type 0} {g : _} (old now : Report W g) (start₀ start : Start) (k : ℕ) : Type 0 where
   pub same : start ≡ start₀
-  pub front : Appends held₀ held (lines_until start₀ k)
-  pub kept : HasNotFailed faults₀ faults
+  pub lines : Adds old now (lines_until start₀ k)
 
-pub put_none : (held : Option (List ℕ)) (faults : Faults) (start : Start) (k : ℕ) → k ≡ 0 → HasPut held held faults faults start start k
-put_none held faults start k none = record {
+pub added_none : {W : Type 0} {g : _} {a : Report W g} (start : Start) (k : ℕ) → k ≡ 0 → HasAdded a a start start k
+added_none {a = a} start k none = record {
   same = refl;
-  front = subst (Appends held held) (sym (rw none (lines_none start))) (Appends-nil held);
-  kept = refl;
+  lines = subst (λ (text : List ℕ). Adds a a text) (sym (rw none (lines_none start))) no_more;
 }
 
-pub put_next : (held₀ held₁ held₂ : Option (List ℕ)) {faults₀ faults₁ faults₂ : Faults} {start₀ start new : Start} {k next : ℕ} → HasPut held₀ held₁ faults₀ faults₁ start₀ start k
-    → new ≡ start → next ≡ k + 1 → Appends held₁ held₂ (own_line start (k + 1)) → HasNotFailed faults₁ faults₂ → HasPut held₀ held₂ faults₀ faults₂ start₀ new next
-put_next held₀ held₁ held₂ {faults₀} {faults₁} {faults₂} {start₀} {start} {new} {k} {next} put same count line kept = record {
-  same = same ∙ put.same;
-  front = rw (count, lines_next start₀ k) (Appends-trans held₀ held₁ held₂ (lines_until start₀ k) (own_line start₀ (k + 1)) put.front (rw put.same at line));
-  kept = kept ∙ put.kept;
+pub added_next : {W : Type 0} {g : _} {a b c : Report W g} {start₀ start new : Start} {k next : ℕ} → HasAdded a b start₀ start k
+    → new ≡ start → next ≡ k + 1 → Adds b c (own_line start (k + 1)) → HasAdded a c start₀ new next
+added_next {start₀ = start₀} {k = k} added same count line = record {
+  same = same ∙ added.same;
+  lines = rw (count, lines_next start₀ k) (added.lines ⨾ (rw added.same at line));
 }
 
--- a put that fails in a line
-pub put_fails : (held₀ held₁ held₂ : Option (List ℕ)) {faults₀ faults₁ : Faults} {start₀ start : Start} {k : ℕ} (all : ℕ) → HasPut held₀ held₁ faults₀ faults₁ start₀ start k
-    → k + 1 ≤ all → AppendsPrefix held₁ held₂ (own_line start (k + 1)) → AppendsPrefix held₀ held₂ (lines_until start₀ all)
-put_fails held₀ held₁ held₂ {faults₀} {faults₁} {start₀} {start} {k} all put within line =
-    prefix_later start₀ held₀ held₂ (k + 1) all within
-    (subst (AppendsPrefix held₀ held₂) (sym (lines_next start₀ k))
-    (prefix_after held₀ held₁ held₂ (lines_until start₀ k) (own_line start₀ (k + 1)) put.front (rw put.same at line)))
+-- a call of the sink that failed by the line of a state
+pub stops_at : {W : Type 0} {g : _} {a b : Report W g} {start₀ start : Start} {k : ℕ} (all : ℕ) (last : List ℕ) → HasAdded a b start₀ start k → k ≤ all → b.failed ≡ true
+    → AddsOrStops a b (lines_until start₀ all ++ last)
+stops_at {start₀ = start₀} {k = k} all last added within failed =
+    let rest = lines_later start₀ k all within in
+    stops (rest.0 ++ last) added.lines (sym (append_assoc (lines_until start₀ k) rest.0 last) ∙ ap (λ (l : List ℕ). l ++ last) rest.1) failed

@@ -33,5 +33,5 @@ mod subs;
 mod times;
 
 pub use laws::lines_stand_at_reports;
-pub use run::{Run, RunFault, open_run};
+pub use run::{Run, open_run};
 pub use start::Start;

@@ -1,9 +1,8 @@
 // A step with all that a run keeps of it.
 ghost use Rattle.std.specs.Prelude.{◌≡◌, ◌+◌, ◌<◌, ◌≤◌, length, pos, true, if◌then◌else◌, ◌-ℤ◌};
-ghost use Rattle.fault_ports.specs.Causes.{HasCause};
-ghost use Rattle.fault_ports.specs.Output.{Puts};
 ghost use Rattle.fixed_num.specs.Ranges.{IsBetween};
 ghost use Rattle.link_eval.specs.Hydraulics.{hydraulics_of};
+ghost use Rattle.report_port.specs.Adding.{Adds};
 ghost use Rattle.trial_model.specs.Fits.{Fits};
 ghost use Rattle.run_engine.specs.Kept.{AreCountsAt, AreFloodsAt, AreLoadsAt, AreSumsOf, IsKept, IsStateAt, IsTotalAt};
 ghost use Rattle.run_engine.specs.Kept.{IsTotalFrom};
@@ -23,9 +22,10 @@ use crate::start::Start;
 use crate::step::make_step;
 use crate::times::next_span;
 use continuity::{RunAccount, account_step, find_floods};
-use fault_ports::{Failed, Sink};
+use fault_ports::Sink;
 use link_eval::HydraulicLaw;
-use report_writer::{RunCounts, put_step_line};
+use report_port::Report;
+use report_writer::{RunCounts, add_step_line};
 use summaries::{OutfallSums, Summaries};
 use trial_model::{Nets, StepEnd};
 
@@ -78,14 +78,14 @@ pub(crate) fn one_step(start: &Start, law: &HydraulicLaw, kept: &mut Kept, since
     kept.moment = span.finish;
 }
 
-// Makes one step more, and puts the step line of its state where it has one.
+// Makes one step more, and adds the step line of its state where it has one.
 pub(crate) fn step_and_line<W: Sink>(
     start: &Start,
     law: &HydraulicLaw,
     kept: &mut Kept,
     since: &mut RunAccount,
-    rpt: &mut W,
-) -> Result<(), Failed>
+    report: &mut Report<'_, W>,
+)
     requires kept { IsKept start.now law.now.hydraulics kept.old }
     requires going { goes_on start.now.project.options kept.old.moment ≡ true }
     requires few { kept.old.counts.steps < 50_000_000 }
@@ -95,17 +95,16 @@ pub(crate) fn step_and_line<W: Sink>(
     ensures steps { kept.new.counts.steps ≡ kept.old.counts.steps + 1 }
     ensures since { IsTotalFrom start.now (line_before start.now (kept.new.counts.steps + 1))
         kept.new.counts.steps since.new }
-    ensures bytes { Puts (W.held rpt.old) (W.held rpt.new) (own_line start.now (kept.old.counts.steps + 1)) result }
-    ensures cause { HasCause (W.faults rpt.old) (W.faults rpt.new) result }
+    ensures text { Adds report.old report.new (own_line start.now (kept.old.counts.steps + 1)) }
 {
     let before = kept.moment;
     one_step(start, law, kept, since);
     if !reaches_report(&start.project.options, before, kept.moment) {
-        return Ok(());
+        return;
     }
     let account = since.total();
     since.clear();
-    put_step_line(rpt, kept.moment, &account)
+    add_step_line(report, &kept.moment, &account);
 }
 
 // Makes the step from state `k` to the next, and keeps state `k` in `before`.

@@ -1,11 +1,10 @@
 // The report of a run.
-ghost use Rattle.std.specs.Prelude.{◌≡◌, ◌++◌, eqb, length, pos, if◌then◌else◌, []};
+ghost use Rattle.std.specs.Prelude.{◌≡◌, eqb, length, pos, if◌then◌else◌, []};
 ghost use Rattle.fault_ports.specs.Causes.{HasCause};
 ghost use Rattle.fault_ports.specs.Output.{Puts};
 ghost use Rattle.fixed_num.specs.Ranges.{IsBetween};
-ghost use Rattle.report_writer.specs.DateTexts.{HasCalendarDates};
-ghost use Rattle.report_writer.specs.RunReport.{head_of};
-ghost use Rattle.report_writer.specs.StepLines.{step_line, steps_heading};
+ghost use Rattle.report_port.specs.Adding.{Adds};
+ghost use Rattle.report_writer.specs.StepLines.{step_line};
 ghost use Rattle.run_engine.specs.Report.{tail_with};
 ghost use Rattle.run_engine.specs.StepLines.{reaches_report, reports_at};
 ghost use Rattle.summaries.specs.Loads.{AreLoadsOf};
@@ -14,37 +13,18 @@ ghost use Rattle.summaries.specs.Runoffs.{HaveSmallSums};
 use continuity::RunAccount;
 use fault_ports::{Failed, Sink};
 use net_types::{Options, Project, StepAccount};
-use report_writer::{
-    RunCounts, RunFigures, put_head, put_step_line, put_steps_heading, put_whole_tail,
-};
+use report_port::Report;
+use report_writer::{RunCounts, RunFigures, add_step_line, put_whole_tail};
 use summaries::{OutfallSums, SubSums, Summaries};
 
-// Puts the head of the report of a project's run, and the heading of its step lines.
-pub(crate) fn put_heading<W: Sink>(to: &mut W, project: &Project) -> Result<(), Failed>
-    requires { HasCalendarDates project.now.options }
-    ensures bytes { Puts (W.held to.old) (W.held to.new) (head_of project.now ++ steps_heading) result }
-    ensures cause { HasCause (W.faults to.old) (W.faults to.new) result }
-{
-    match put_head(to, project) {
-        Ok(()) => put_steps_heading(to),
-        Err(failed) => Err(failed),
-    }
-}
-
-// Puts the line of the last state, where steps were made since the last step line.
-pub(crate) fn put_last_line<W: Sink>(
-    to: &mut W,
-    moment: i64,
-    since: &RunAccount,
-) -> Result<(), Failed>
-    ensures bytes { Puts (W.held to.old) (W.held to.new)
-        (if eqb since.now.steps 0 then [] else step_line moment since.now.total) result }
-    ensures cause { HasCause (W.faults to.old) (W.faults to.new) result }
+// Adds the line of the last state, where steps were made since the last step line.
+pub(crate) fn add_last_line<W: Sink>(report: &mut Report<'_, W>, moment: &i64, since: &RunAccount)
+    ensures { Adds report.old report.new (if eqb since.now.steps 0 then [] else step_line moment.now since.now.total) }
 {
     if since.is_empty() {
-        return Ok(());
+        return;
     }
-    put_step_line(to, moment, &since.total())
+    add_step_line(report, moment, &since.total());
 }
 
 // Puts the figures of a run, which it came to.

@@ -1,5 +1,5 @@
 // A run of a project by one worker.
-ghost use Rattle.std.specs.Prelude.{◌≡◌, ◌+◌, ◌++◌, true, false, IfOk, IfErr, IfSome};
+ghost use Rattle.std.specs.Prelude.{◌≡◌, ◌+◌, ◌++◌, true, false, IfOk, IfSome};
 ghost use Rattle.continuity.specs.Account.{Balances};
 ghost use Rattle.fault_ports.specs.Causes.{HasCause};
 ghost use Rattle.fault_ports.specs.Output.{Puts};
@@ -10,12 +10,13 @@ ghost use Rattle.run_engine.specs.Progress.{IsAt, IsGoingAt};
 ghost use Rattle.run_engine.specs.Report.{front_after, tail_after};
 ghost use Rattle.run_engine.specs.States.{steps_of};
 ghost use Rattle.run_engine.specs.StepLines.{last_line, lines_until, own_line};
+ghost use Rattle.report_port.specs.Adding.{Adds, AddsOrStops};
 
 use crate::begin::open_kept;
 use crate::hot::{keep_last, open_last};
 use crate::kept::Kept;
 use crate::one_step::step_and_line;
-use crate::output::{put_figures, put_heading, put_last_line};
+use crate::output::{add_last_line, put_figures};
 use crate::start::Start;
 use crate::times::goes_on;
 use continuity::RunAccount;
@@ -23,18 +24,10 @@ use fault_ports::{Failed, Sink};
 use hotstart::HotState;
 use link_eval::HydraulicLaw;
 use net_types::{OutOfMemory, Project, StepAccount};
-use report_writer::RunCounts;
+use report_port::Report;
+use report_writer::{RunCounts, add_head, add_steps_heading};
 use std::alloc::Global;
 use std::marker::Model;
-
-/// Why a run stopped before its end.
-#[derive(Clone, Copy, Debug, PartialEq, Eq)]
-pub enum RunFault {
-    /// The report could not be written.
-    Write,
-    /// There was not enough memory.
-    OutOfMemory,
-}
 
 /// A run: what it began with, its state, the state before, what its steps and states came to so far, the account of the
 /// steps since the last step line, and the state that it keeps for a hotstart.
@@ -97,17 +90,17 @@ pub fn open_run(alloc: Global, project: Project, hot: Option<HotState>) -> Resul
 }
 
 impl Run {
-    /// Puts the report's head, makes all steps by one worker, and puts the step lines. It takes no memory.
+    /// Makes all steps by one worker, and puts the report's head and the step lines as they are reached, in pages. It
+    /// takes no memory.
     ///
     /// A state after the first has a step line where it is the first at or past some multiple of the report step, and
-    /// the last one has one in any case. The only fault is that the report could not be written.
+    /// the last one has one in any case. The only error is a call of the sink that failed, which is the last one.
     /// Source: Reference Manual volume II, chapter 3; this project's profile.
-    pub fn advance_alone<W: Sink>(&mut self, rpt: &mut W) -> Result<(), RunFault>
+    pub fn advance_alone<W: Sink>(&mut self, rpt: &mut W) -> Result<(), Failed>
         requires { IsAt self.old 0 }
         ensures bytes { Puts (W.held rpt.old) (W.held rpt.new)
             (front_after self.old.start (steps_of self.old.start)) result }
         ensures cause { HasCause (W.faults rpt.old) (W.faults rpt.new) result }
-        ensures fault { IfErr result (λ fault. fault ≡ RunFault.Write) }
         ensures start { self.new.start ≡ self.old.start }
         ensures at { IfOk result (λ _. IsAt self.new (steps_of self.new.start)) }
         ensures last { IfOk result (λ _. self.new.last ≡ last_of self.new.start) }
@@ -118,7 +111,7 @@ impl Run {
                 self.keep_state();
                 Ok(())
             }
-            Err(Failed) => Err(RunFault::Write),
+            Err(failed) => Err(failed),
         }
     }
 
@@ -207,65 +200,63 @@ impl Run {
         ensures start { self.new.start ≡ self.old.start }
         ensures at { IfOk result (λ _. IsAt self.new (steps_of self.new.start)) }
     {
-        match put_heading(rpt, &self.start.project) {
-            Ok(()) => self.put_lines(rpt),
-            Err(failed) => Err(failed),
-        }
+        let mut report = Report::new(rpt);
+        self.add_front(&mut report);
+        report.end()
     }
 
-    // Makes all steps, and puts the line of each state that has one, and of the last state.
-    fn put_lines<W: Sink>(&mut self, rpt: &mut W) -> Result<(), Failed>
+    // Adds the head and the heading, makes all steps, and adds their lines. It stops where a call of the sink failed.
+    fn add_front<W: Sink>(&mut self, report: &mut Report<'_, W>)
         requires { IsAt self.old 0 }
-        ensures bytes { Puts (W.held rpt.old) (W.held rpt.new) (lines_until self.old.start (steps_of self.old.start)
-            ++ last_line self.old.start (steps_of self.old.start)) result }
-        ensures cause { HasCause (W.faults rpt.old) (W.faults rpt.new) result }
+        ensures text { AddsOrStops report.old report.new (front_after self.old.start (steps_of self.old.start)) }
         ensures start { self.new.start ≡ self.old.start }
-        ensures at { IfOk result (λ _. IsAt self.new (steps_of self.new.start)) }
+        ensures at { report.new.failed ≡ false → IsAt self.new (steps_of self.new.start) }
     {
-        match self.put_steps(rpt) {
-            Ok(()) => self.put_last(rpt),
-            Err(failed) => Err(failed),
-        }
+        add_head(report, &self.start.project);
+        add_steps_heading(report);
+        self.add_steps(report);
     }
 
-    // Makes all steps, and puts the line of each state that has one.
-    fn put_steps<W: Sink>(&mut self, rpt: &mut W) -> Result<(), Failed>
+    // Makes all steps, and adds the line of each state that has one, and of the last state. It stops where a call of
+    // the sink failed.
+    fn add_steps<W: Sink>(&mut self, report: &mut Report<'_, W>)
         requires { IsAt self.old 0 }
-        ensures bytes { Puts (W.held rpt.old) (W.held rpt.new)
-            (lines_until self.old.start (steps_of self.old.start)) result }
-        ensures cause { HasCause (W.faults rpt.old) (W.faults rpt.new) result }
+        ensures text { AddsOrStops report.old report.new (lines_until self.old.start (steps_of self.old.start)
+            ++ last_line self.old.start (steps_of self.old.start)) }
         ensures start { self.new.start ≡ self.old.start }
-        ensures at { IfOk result (λ _. IsAt self.new (steps_of self.new.start)) }
+        ensures at { report.new.failed ≡ false → IsAt self.new (steps_of self.new.start) }
     {
         while self.goes_on() {
-            match self.add_step(rpt) {
-                Ok(()) => {}
-                Err(failed) => return Err(failed),
+            self.add_step(report);
+            if report.has_failed() {
+                return;
             }
         }
-        Ok(())
+        self.add_last(report);
     }
 
-    // Puts the line of the last state, where it has none of its own.
-    fn put_last<W: Sink>(&self, rpt: &mut W) -> Result<(), Failed>
+    // Adds the line of the last state, where it has none of its own.
+    fn add_last<W: Sink>(&self, report: &mut Report<'_, W>)
         requires { IsAt self.now (steps_of self.now.start) }
-        ensures bytes { Puts (W.held rpt.old) (W.held rpt.new)
-            (last_line self.now.start (steps_of self.now.start)) result }
-        ensures cause { HasCause (W.faults rpt.old) (W.faults rpt.new) result }
+        ensures { Adds report.old report.new (last_line self.now.start (steps_of self.now.start)) }
     {
-        put_last_line(rpt, self.kept.moment, &self.since)
+        add_last_line(report, &self.kept.moment, &self.since);
     }
 
-    // Makes one step more, and puts the line of its state where it has one.
-    fn add_step<W: Sink>(&mut self, rpt: &mut W) -> Result<(), Failed>
+    // Makes one step more, and adds the line of its state where it has one.
+    fn add_step<W: Sink>(&mut self, report: &mut Report<'_, W>)
         requires { IsGoingAt self.old.start self.old.counts.steps }
-        ensures bytes { Puts (W.held rpt.old) (W.held rpt.new)
-            (own_line self.old.start (self.old.counts.steps + 1)) result }
-        ensures cause { HasCause (W.faults rpt.old) (W.faults rpt.new) result }
+        ensures text { Adds report.old report.new (own_line self.old.start (self.old.counts.steps + 1)) }
         ensures start { self.new.start ≡ self.old.start }
         ensures steps { self.new.counts.steps ≡ self.old.counts.steps + 1 }
         ensures at { IsAt self.new self.new.counts.steps }
     {
-        step_and_line(&self.start, &self.law, &mut self.kept, &mut self.since, rpt)
+        step_and_line(
+            &self.start,
+            &self.law,
+            &mut self.kept,
+            &mut self.since,
+            report,
+        );
     }
 }

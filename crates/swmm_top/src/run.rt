@@ -22,7 +22,7 @@ use fault_ports::{Failed, Sink, Source};
 use hotstart::{HotRead, HotState, write_hot};
 use net_types::{OutOfMemory, Project};
 use report_writer::put_hot_refusal;
-use run_engine::{Run, RunFault, open_run};
+use run_engine::{Run, open_run};
 use std::alloc::Global;
 
 /// Makes the run of a project without a fault: it begins from the hotstart of a source where it resumes, and keeps the
@@ -192,8 +192,7 @@ fn make_run<W: Sink, K: Sink>(
 {
     match run.advance_alone(rpt) {
         Ok(()) => report_run(keeps, run, rpt, hot_out),
-        Err(RunFault::Write) => Err(TopFault::Write(Port::Rpt)),
-        Err(RunFault::OutOfMemory) => Err(TopFault::OutOfMemory),
+        Err(Failed) => Err(TopFault::Write(Port::Rpt)),
     }
 }
 

@@ -8,6 +8,6 @@ unfolding report_of
 returns-in-Ok-clause-outcome g c =
     leaves_after _ _ _ _ _ _ _ _ _ c.in-Ok.ensures.bytes (rw c.in-Ok.ensures.start at c.report_run.ensures.outcome)
 
-pub returns-in-Err-Write-clause-outcome : goal.returns-in-Err-Write-clause-outcome
+pub returns-in-Err-clause-outcome : goal.returns-in-Err-clause-outcome
 unfolding report_of
-returns-in-Err-Write-clause-outcome g c = leaves_front _ _ _ _ _ _ c.in-Err-Write.ensures.bytes
+returns-in-Err-clause-outcome g c = leaves_front _ _ _ _ _ _ c.in-Err.ensures.bytes

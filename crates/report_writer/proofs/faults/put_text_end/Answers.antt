@@ -1,9 +1,0 @@
--- Two pieces, one after the other.
-use Rattle.fault_ports.proofs.OutputLemmas.{puts_after, prefix_stays}
-use Rattle.report_writer.proofs.faults.put_text_end.Goals as goal
-
-pub returns-in-Ok-clause-bytes : goal.returns-in-Ok-clause-bytes
-returns-in-Ok-clause-bytes g c = puts_after _ _ _ _ _ _ c.in-Ok.ensures.bytes c.put_all.ensures.bytes
-
-pub returns-in-Err-clause-bytes : goal.returns-in-Err-clause-bytes
-returns-in-Err-clause-bytes g c = prefix_stays _ _ _ _ c.in-Err.ensures.bytes

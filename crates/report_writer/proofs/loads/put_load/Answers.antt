@@ -1,9 +1,0 @@
--- The parts are the texts of the line.
-use Rattle.std.proofs.Common.{to_z-of_z}
-use Rattle.report_writer.specs.LoadSections.{load_line}
-use Rattle.report_writer.proofs.loads.put_load.Goals as goal
-
-pub returns-clause-bytes : goal.returns-clause-bytes
-unfolding load_line
-returns-clause-bytes g c =
-    simp (to_z-of_z, c.ranges.volume, c.ranges.flow, c.format.ensures.text, c.as_bytes.ensures.value, c.in_unit.ensures) at c.put_parts.ensures.bytes

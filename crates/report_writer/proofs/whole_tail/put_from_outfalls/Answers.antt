@@ -1,6 +1,0 @@
--- Two pieces, one after the other.
-use Rattle.fault_ports.proofs.OutputLemmas.{puts_after}
-use Rattle.report_writer.proofs.whole_tail.put_from_outfalls.Goals as goal
-
-pub returns-in-Ok-clause-bytes : goal.returns-in-Ok-clause-bytes
-returns-in-Ok-clause-bytes g c = puts_after _ _ _ _ _ _ c.in-Ok.ensures.bytes c.put_from_links.ensures.bytes
