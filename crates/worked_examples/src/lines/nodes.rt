@@ -120,7 +120,8 @@ pub(crate) const TABULAR_STORAGES: Lines = Lines {
     below: "",
 };
 
-// Name, invert elevation, greatest depth, initial depth, FUNCTIONAL, coefficient, power, constant, two numbers that aren't used.
+// Name, invert elevation, greatest depth, initial depth, FUNCTIONAL, coefficient, power, constant, two numbers that
+// aren't used.
 pub(crate) const FUNCTIONAL_STORAGES: Lines = Lines {
     above: "[STORAGE]",
     rows: "
