@@ -11,6 +11,8 @@ mod failures;
 #[cfg(test)]
 mod hotstarts;
 #[cfg(test)]
+mod lines;
+#[cfg(test)]
 mod reaches;
 #[cfg(test)]
 mod refusals;
@@ -20,3 +22,5 @@ mod resumes;
 mod runs;
 #[cfg(test)]
 mod times;
+#[cfg(test)]
+mod whole_inputs;
