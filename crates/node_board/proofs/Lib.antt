@@ -17,3 +17,6 @@ pub mod ClaimCalls
 pub mod DepositLemmas
 pub mod LoadLemmas
 pub mod FurtherLemmas
+pub mod CountedLemmas
+pub mod ReadSteps
+pub mod LeadCalls

@@ -32,7 +32,7 @@ use Rattle.node_board.proofs.ReachedLemmas.{kept_of_reached}
 use Rattle.node_board.proofs.ShowLemmas.{seat_is, seat_in}
 
 -- an act that changes a word is made on an item
-held : (law : Law) (w : Work) (act : Act) → CanWork law w act
+pub held : (law : Law) (w : Work) (act : Act) → CanWork law w act
     → (1 ≤ w.stage) ⊎ ((c : Core) → words_after law c w act ≡ c.words)
 unfolding words_after
 held law w Look can = inr (λ c. refl)

@@ -1,5 +1,5 @@
 // That boards are opened by the rule, and that each kind of step keeps it.
-ghost use Rattle.std.specs.Prelude.{◌≡◌, ℕ, ◌+◌, ◌%◌, ◌^◌, ◌<◌, ◌≤◌, true, false, ℤ, pos, min, [], slice_set};
+ghost use Rattle.std.specs.Prelude.{◌≡◌, ℕ, ◌+◌, ◌%◌, ◌^◌, ◌<◌, ◌≤◌, true, false, ℤ, pos, min, [], slice_set, length};
 ghost use Rattle.atomic_table.specs.Table.{opening};
 ghost use Rattle.fixed_num.specs.Lists.{number};
 ghost use Rattle.phase_law.specs.Law.{Law};
@@ -16,6 +16,7 @@ ghost use Rattle.node_board.specs.declared.views.Plan.{Plan};
 ghost use Rattle.node_board.specs.declared.views.Role.TheVariants.{Leads, Works};
 ghost use Rattle.node_board.specs.declared.views.View.{View};
 ghost use Rattle.node_board.specs.Coding.{claim_word, stop_word, coded, decoded};
+ghost use Rattle.node_board.specs.Known.{IsTold, Tells};
 ghost use Rattle.node_board.specs.Opening.{first_words, first_view};
 ghost use Rattle.node_board.specs.Plays.{looked, took, at_work, at_plan, reset_once, DonePlay, after_split, new_seat};
 ghost use Rattle.node_board.specs.Rule.{IsRuled};
@@ -78,7 +79,8 @@ pub fn leads_keep_the_rule<P: PhaseLaw>()
     ensures set { (law : Law) (key : P) (v : View P) (plan : Plan) (j : ℕ) (value : ℤ) (n : ℕ) → IsLaw law
         → v.role ≡ Leads plan → Rests plan → is_odd plan.phase ≡ false → IsRead law (written plan.phase) j
         → IsInRange law j value → n ≡ coded law j value → Keeps law key v (j + 1) (λ m. n)
-        (λ m me. me ≡ (at_plan v (record plan { known = slice_set plan.known j value }), [])) }
+        (λ m me. (me ≡ (at_plan v (record plan { known = slice_set plan.known j value }), []))
+        × (length plan.known ≡ word_count law)) }
     ensures open_links { (law : Law) (key : P) (v : View P) (plan : Plan) (n : ℕ) → IsLaw law
         → v.role ≡ Leads plan → Rests plan → is_odd plan.phase ≡ false → IsReset law plan
         → n ≡ claim_word (plan.phase + 1) 0 → Keeps law key v 0 (λ m. n) (λ m me.
@@ -92,4 +94,7 @@ pub fn leads_keep_the_rule<P: PhaseLaw>()
     ensures read { (law : Law) (key : P) (v : View P) (plan : Plan) (j : ℕ) → IsLaw law → v.role ≡ Leads plan
         → plan.is_open ≡ false → j < word_count law → Keeps law key v (j + 1) (λ m. m)
         (λ m me. (me ≡ (v, [])) × (m ≡ coded law j (number plan.known j))) }
+    ensures tell { (law : Law) (key : P) (v : View P) (plan : Plan) (j : ℕ) → IsLaw law → v.role ≡ Leads plan
+        → plan.is_open ≡ false → IsTold law j → Keeps law key v (j + 1) (λ m. m)
+        (λ m me. (me ≡ (v, [])) × Tells law plan j m) }
 {}

@@ -17,19 +17,28 @@
 
 mod board;
 mod claims;
+mod closes;
 mod inputs;
 mod items;
 mod laws;
+mod lead;
 mod links;
 mod loads;
 mod nodes;
+mod opens;
 mod places;
 mod plays;
+mod reads;
+mod resets;
 mod rule;
+mod sets;
 mod views;
+mod words;
 
 pub use board::{Board, Lead, Seat};
 pub use claims::Claim;
+pub use closes::{Closed, Pending};
 pub use inputs::{LinkInput, NodeInput, Sums};
 pub use laws::{boards_open_by_the_rule, leads_keep_the_rule, workers_keep_the_rule};
+pub use resets::stopped;
 pub use views::{Plan, Role, View};
