@@ -33,7 +33,7 @@ use Rattle.node_board.specs.Plays.{at_plan, reset_once}
 use Rattle.node_board.proofs.ShowLemmas.{seat_is, seat_in, show_word, show_claim}
 use Rattle.node_board.proofs.WorkerSteps.{kept}
 
-reset_inside : (law : Law) (r phase : ℕ) → r < reset_count law phase → reset_place law r < word_count law
+pub reset_inside : (law : Law) (r phase : ℕ) → r < reset_count law phase → reset_place law r < word_count law
 reset_inside law r phase left = let few = reset_most (is_odd phase) in grind (arith, few)
   where
     reset_most : (t : Bool) → (if t then 1 else 3 + 3 * law.nodes) ≤ 3 + 3 * law.nodes

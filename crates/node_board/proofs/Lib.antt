@@ -20,3 +20,5 @@ pub mod FurtherLemmas
 pub mod CountedLemmas
 pub mod ReadSteps
 pub mod LeadCalls
+pub mod OpenLemmas
+pub mod SetLemmas
