@@ -5,6 +5,7 @@ use Rattle.atomic_table.specs.Table.{Me, Allows}
 use Rattle.phase_law.specs.Law.{Law}
 use Rattle.phase_law.specs.Laws.{IsLaw}
 use Rattle.phase_machine.specs.Places.{is_odd, word_count, written, first_place, IsRead, IsInRange}
+use Rattle.node_board.specs.declared.views.Role.{Role}
 use Rattle.node_board.specs.declared.views.View.{View}
 use Rattle.node_board.specs.Coding.{is_plain, coded, decoded, claim_word, stop_word}
 use Rattle.node_board.specs.Known.{at_known, begun_links, begun_nodes, CanReset, CanSetWord, CanBegin, IsTold, Tells}
@@ -16,6 +17,10 @@ use Rattle.node_board.proofs.Calls.{lead_is, may}
 use Rattle.node_board.proofs.DoneSteps.{done_allowed}
 use Rattle.node_board.proofs.LeadSteps.{reset_allowed, set_allowed, open_links_allowed, open_nodes_allowed, stop_allowed}
 use Rattle.node_board.proofs.ReadSteps.{told_allowed}
+
+-- the lead's view is that of what it knows
+pub lead_view : {P : Type 0} (v : View P) → IsLead v.role → v ≡ at_plan v (plan_of v)
+lead_view v lead = ap (λ (o : Role). record v { role = o }) (lead_is v.role lead)
 
 module _ {P : Type 0} (lawof : P → Law) (good : (p : P) → IsLaw (lawof p)) (key : P) (me : Me (Unit {0}) (View P))
     (none : me.1 ≡ []) (same : me.0.law ≡ key) (slots i : ℕ) (lead : IsLead me.0.role) where

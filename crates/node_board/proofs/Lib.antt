@@ -22,3 +22,4 @@ pub mod ReadSteps
 pub mod LeadCalls
 pub mod OpenLemmas
 pub mod SetLemmas
+pub mod ReadLemmas

@@ -26,8 +26,11 @@ use Rattle.phase_machine.proofs.PlaceLemmas.{written_few}
 use Rattle.phase_machine.proofs.Resets.{ResetView, of_done, of_unsettled, of_sum, of_least, reset_view, reset_unread, few_of}
 use Rattle.node_board.specs.declared.views.Plan.{Plan}
 use Rattle.node_board.specs.Coding.{is_plain, coded, decoded}
-use Rattle.node_board.specs.Known.{state_in, with_first, reset_words, links_opened, nodes_opened, CanReset}
-use Rattle.node_board.specs.Plays.{trial_of, unsettled_of}
+use Rattle.node_board.specs.declared.views.View.{View}
+use Rattle.node_board.specs.Known.{state_in, at_known, with_first, reset_words, all_reset, begun_links, begun_nodes}
+use Rattle.node_board.specs.Known.{links_opened, nodes_opened, CanReset}
+use Rattle.node_board.specs.Plays.{at_plan, trial_of, unsettled_of}
+use Rattle.node_board.specs.Seen.{plan_of}
 use Rattle.node_board.specs.Steps.{Rests}
 use Rattle.node_board.proofs.CodeLemmas.{done_plain, unsettled_plain, least_plain, node_kind, plain_word}
 
@@ -231,3 +234,17 @@ module _ (law : Law) (opened : List ℤ) (phase : ℕ) (odd : is_odd phase ≡ t
 pub reset_more : (law : Law) (r : ℕ) (words : List ℤ)
     → slice_set (reset_words law r words) (reset_place law r) (reset_value law r) ≡ reset_words law (r + 1) words
 reset_more law r words = rw (add-one r) refl
+
+-- the views of the lead along an opening
+module _ {P : Type 0} (law : Law) where
+  pub links_view : (begun : Bool) (v v1 v2 v3 : View P) → v1 ≡ at_known v (with_first begun (plan_of v).known)
+      → v2 ≡ at_plan v1 (all_reset law (plan_of v1)) → v3 ≡ at_plan v2 (begun_links (plan_of v2))
+      → v3 ≡ at_plan v (links_opened law begun (plan_of v))
+  links_view begun v v1 v2 v3 e1 e2 e3 =
+      e3
+      ∙ ap (λ (x : View P). at_plan x (begun_links (plan_of x))) e2
+      ∙ ap (λ (x : View P). at_plan x (begun_links (all_reset law (plan_of x)))) e1
+
+  pub nodes_view : (v v1 v2 : View P) → v1 ≡ at_plan v (all_reset law (plan_of v)) → v2 ≡ at_plan v1 (begun_nodes (plan_of v1))
+      → v2 ≡ at_plan v (nodes_opened law (plan_of v))
+  nodes_view v v1 v2 e1 e2 = e2 ∙ ap (λ (x : View P). at_plan x (begun_nodes (plan_of x))) e1

@@ -3,18 +3,22 @@ use Rattle.phase_machine.specs.Steps.{reset_count}
 use Rattle.node_board.specs.declared.views.View.{View}
 use Rattle.node_board.specs.Known.{reset_words}
 use Rattle.node_board.specs.Plays.{at_plan, reset_once}
-use Rattle.node_board.specs.Seen.{BoardSeen, SeatSeen, plan_of}
+use Rattle.node_board.specs.Seen.{BoardSeen, SeatSeen, IsLead, plan_of}
 use Rattle.node_board.specs.Steps.{Rests}
+use Rattle.node_board.proofs.LeadCalls.{lead_view}
 use Rattle.node_board.proofs.OpenLemmas.{reset_more}
 use Rattle.node_board.proofs.board.Board.reset_all.Goals as goal
 
 pub loop-reset-init : goal.loop-reset-init
 loop-reset-init g c =
-    let plan = plan_of c.args.lead.now.view in
+    let old = c.args.lead.now.view in
+    let leads = subst (λ (y : SeatSeen g.row.P.Denot). IsLead y.view.role) c.lead.view_is c.lead.invariant.1 in
     record {
       most = omega arith;
       from = c.requires.from;
-      view = ?;
+      view =
+          lead_view old leads
+          ∙ ap (λ (r : ℕ). at_plan old (record (plan_of old) { resets = r })) c.requires.fresh;
     }
 
 pub reset-requires-clause-rests : goal.reset-requires-clause-rests
