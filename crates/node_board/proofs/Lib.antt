@@ -23,3 +23,4 @@ pub mod LeadCalls
 pub mod OpenLemmas
 pub mod SetLemmas
 pub mod ReadLemmas
+pub mod TrialLemmas

@@ -25,6 +25,14 @@ state_in law plan = nets_in law plan.known (written plan.phase)
 abbrev pub unsettled_known : Plan → ℤ
 unsettled_known plan = number plan.known unsettled_place
 
+-- a state has the flows, the sums and the least time of another
+pub record HasFlows (s t : Nets) : Type 0 where
+  pub flows : s.flows ≡ t.flows
+  pub inflows : s.inflows ≡ t.inflows
+  pub outflows : s.outflows ≡ t.outflows
+  pub areas : s.areas ≡ t.areas
+  pub least : s.least ≡ t.least
+
 -- the same view where the lead knows other words
 abbrev pub at_known : {P : Type 0} → View P → List ℤ → View P
 at_known v words = at_plan v (record (plan_of v) { known = words })

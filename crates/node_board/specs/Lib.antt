@@ -9,3 +9,4 @@ pub mod Opening
 pub mod Claims
 pub mod Acts
 pub mod Known
+pub mod TwoLinks

@@ -1,13 +1,16 @@
 // That boards are opened by the rule, and that each kind of step keeps it.
-ghost use Rattle.std.specs.Prelude.{◌≡◌, ℕ, ◌+◌, ◌%◌, ◌^◌, ◌<◌, ◌≤◌, true, false, ℤ, pos, min, [], slice_set, length};
+ghost use Rattle.std.specs.Prelude.{◌≡◌, ℕ, Bool, ◌+◌, ◌%◌, ◌^◌, ◌<◌, ◌≤◌, true, false, ℤ, pos, min, [], slice_set, length};
 ghost use Rattle.atomic_table.specs.Table.{opening};
 ghost use Rattle.fixed_num.specs.Lists.{number};
 ghost use Rattle.phase_law.specs.Law.{Law};
 ghost use Rattle.phase_law.specs.Laws.{IsLaw};
+ghost use Rattle.trial_model.specs.declared.nets.Nets.{Nets};
+ghost use Rattle.trial_model.specs.Trial.{trial, unsettled_in, with_flows};
 ghost use Rattle.phase_machine.specs.declared.acts.Act.{Act};
 ghost use Rattle.phase_machine.specs.declared.acts.Act.TheVariants.{OfferTime, PutFlow, PutHead, MarkUnsettled, Done};
 ghost use Rattle.phase_machine.specs.declared.work.Work.{Work};
 ghost use Rattle.phase_machine.specs.Asks.{AsksLink, AsksNode};
+ghost use Rattle.phase_machine.specs.Kept.{with_links};
 ghost use Rattle.phase_machine.specs.Items.{Deposit, share_at, next_at};
 ghost use Rattle.phase_machine.specs.Places.{done_place, unsettled_place, node_place, least_place, word_count};
 ghost use Rattle.phase_machine.specs.Places.{is_odd, written, IsRead, IsInRange};
@@ -16,9 +19,10 @@ ghost use Rattle.node_board.specs.declared.views.Plan.{Plan};
 ghost use Rattle.node_board.specs.declared.views.Role.TheVariants.{Leads, Works};
 ghost use Rattle.node_board.specs.declared.views.View.{View};
 ghost use Rattle.node_board.specs.Coding.{claim_word, stop_word, coded, decoded};
-ghost use Rattle.node_board.specs.Known.{IsTold, Tells};
+ghost use Rattle.node_board.specs.Known.{IsTold, Tells, HasFlows, state_in, unsettled_known, nodes_opened};
 ghost use Rattle.node_board.specs.Opening.{first_words, first_view};
 ghost use Rattle.node_board.specs.Plays.{looked, took, at_work, at_plan, reset_once, DonePlay, after_split, new_seat};
+ghost use Rattle.node_board.specs.Plays.{Shuts, trial_of, unsettled_of};
 ghost use Rattle.node_board.specs.Rule.{IsRuled};
 ghost use Rattle.node_board.specs.Steps.{Keeps, KeepsSplit, ended, flow_place, head_place, load_place};
 ghost use Rattle.node_board.specs.Steps.{AskedWhenLoaded, Loads, Deposits, Rests, IsReset};
@@ -97,4 +101,21 @@ pub fn leads_keep_the_rule<P: PhaseLaw>()
     ensures tell { (law : Law) (key : P) (v : View P) (plan : Plan) (j : ℕ) → IsLaw law → v.role ≡ Leads plan
         → plan.is_open ≡ false → IsTold law j → Keeps law key v (j + 1) (λ m. m)
         (λ m me. (me ≡ (v, [])) × Tells law plan j m) }
+{}
+
+/// Whatever the seats did, and in whatever order: what stands on the board once its phases are closed is made as one
+/// worker makes it. After a phase of links the lead knows the flows, the sums and the least time of the trial of the
+/// state that it opened, and after the phase of nodes the whole trial and its count of unsettled nodes.
+///
+/// The premises are what [`Board::open_links`](crate::Board::open_links), [`Board::close`](crate::Board::close) and
+/// [`Board::open_nodes`](crate::Board::open_nodes) tell.
+pub fn closed_phases_are_those_of_a_trial()
+    ensures links { (law : Law) (s : Nets) (begun : Bool) (first links : Plan) → is_odd first.phase ≡ true
+        → with_links law first.opened first.phase ≡ with_flows law s begun → Shuts law first links
+        → HasFlows (state_in law links) (with_flows law s begun) }
+    ensures nodes { (law : Law) (s : Nets) (begun : Bool) (first links nodes : Plan) → is_odd first.phase ≡ true
+        → trial_of law first.opened first.phase ≡ trial law s begun
+        → unsettled_of law first.opened first.phase ≡ unsettled_in law s begun
+        → Shuts law first links → Shuts law (nodes_opened law links) nodes
+        → (state_in law nodes ≡ trial law s begun) × (unsettled_known nodes ≡ pos (unsettled_in law s begun)) }
 {}

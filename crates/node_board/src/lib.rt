@@ -32,6 +32,8 @@ mod reads;
 mod resets;
 mod rule;
 mod sets;
+#[cfg(test)]
+mod tests;
 mod views;
 mod words;
 
@@ -39,6 +41,7 @@ pub use board::{Board, Lead, Seat};
 pub use claims::Claim;
 pub use closes::{Closed, Pending};
 pub use inputs::{LinkInput, NodeInput, Sums};
-pub use laws::{boards_open_by_the_rule, leads_keep_the_rule, workers_keep_the_rule};
+pub use laws::{boards_open_by_the_rule, closed_phases_are_those_of_a_trial};
+pub use laws::{leads_keep_the_rule, workers_keep_the_rule};
 pub use resets::stopped;
 pub use views::{Plan, Role, View};
