@@ -1,6 +1,6 @@
 -- While no phase is open, sums, the least time and the count of unsettled nodes lie in their ranges.
-use Rattle.std.proofs.Common.{◌≡◌, ℕ, zero, suc, ◌+◌, ◌-◌, ◌^◌, ◌<◌, ◌≤◌, inl, inr, Bool, true, false, eqb, if◌then◌else◌}
-use Rattle.std.proofs.Common.{ℤ, pos, List, length, slice_set, refl, sym, ap, subst, ◌∙◌, arith}
+use Rattle.std.proofs.Common.{◌≡◌, ℕ, zero, suc, ◌+◌, ◌-◌, ◌^◌, ◌<◌, inl, inr, Bool, true, false, eqb, if◌then◌else◌}
+use Rattle.std.proofs.Common.{ℤ, pos, List, length, slice_set, refl, sym, subst, ◌∙◌, arith}
 use Rattle.std.proofs.lemmas.Bool.Decides.{nat_tests}
 use Rattle.std.proofs.lemmas.Int.{ints}
 use Rattle.fixed_num.specs.Lists.{number}
@@ -22,12 +22,12 @@ use Rattle.phase_machine.specs.Places.{is_odd, count, written, other, is_first, 
 use Rattle.phase_machine.specs.Core.{Core, seat_of}
 use Rattle.phase_machine.specs.Kept.{Kept, sum_of, with_links}
 use Rattle.phase_machine.specs.Steps.{Can, CanWork, CanLead, after, by_lead, by_worker, looked_done, is_all}
-use Rattle.phase_machine.specs.Steps.{words_after, reset_count, reset_place, reset_value}
+use Rattle.phase_machine.specs.Steps.{words_after, reset_place, reset_value}
 use Rattle.phase_machine.proofs.Bounds.{sum_few, unsettled_few, running}
 use Rattle.phase_machine.proofs.Fitting.{fits_in}
 use Rattle.phase_machine.proofs.PlaceLemmas.{equal_or_not, other_few, written_few, read_within}
 use Rattle.phase_machine.proofs.PlaceLemmas.{read_apart_unsettled, read_apart_sum, read_apart_least}
-use Rattle.phase_machine.proofs.Resets.{ResetView, of_done, of_unsettled, of_sum, of_least, reset_view, reset_within, few_of}
+use Rattle.phase_machine.proofs.Resets.{ResetView, of_done, of_unsettled, of_sum, of_least, reset_view, few_of}
 use Rattle.node_board.specs.Reached.{IsReached, starts, makes}
 use Rattle.node_board.proofs.AmountSteps.{least_low}
 use Rattle.node_board.proofs.ReachedLemmas.{kept_of_reached}

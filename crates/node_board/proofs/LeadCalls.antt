@@ -1,14 +1,14 @@
 -- What the atomic steps ask, for the lead of a board.
-use Rattle.std.proofs.Common.{◌≡◌, ℕ, ◌+◌, ◌-◌, ◌^◌, ◌<◌, ◌≤◌, Bool, true, false, ℤ, pos, ◌≤ℤ◌, ◌+ℤ◌, [], length, slice_set}
-use Rattle.std.proofs.Common.{refl, ap, sym, subst, ◌∙◌, arith}
+use Rattle.std.proofs.Common.{◌≡◌, ℕ, ◌+◌, ◌-◌, ◌≤◌, true, false, ℤ, [], length, slice_set}
+use Rattle.std.proofs.Common.{ap, sym, subst, arith}
 use Rattle.atomic_table.specs.Table.{Me, Allows}
 use Rattle.phase_law.specs.Law.{Law}
 use Rattle.phase_law.specs.Laws.{IsLaw}
-use Rattle.phase_machine.specs.Places.{is_odd, word_count, written, first_place, IsRead, IsInRange}
+use Rattle.phase_machine.specs.Places.{is_odd, word_count, written, IsRead, IsInRange}
 use Rattle.node_board.specs.declared.views.Role.{Role}
 use Rattle.node_board.specs.declared.views.View.{View}
-use Rattle.node_board.specs.Coding.{is_plain, coded, decoded, claim_word, stop_word}
-use Rattle.node_board.specs.Known.{at_known, begun_links, begun_nodes, CanReset, CanSetWord, CanBegin, IsTold, Tells}
+use Rattle.node_board.specs.Coding.{coded, decoded, claim_word, stop_word}
+use Rattle.node_board.specs.Known.{at_known, begun_links, begun_nodes, CanReset, CanBegin, IsTold, Tells}
 use Rattle.node_board.specs.Plays.{at_plan, reset_once, DonePlay}
 use Rattle.node_board.specs.Rule.{IsRuled}
 use Rattle.node_board.specs.Seen.{IsLead, plan_of}

@@ -3,7 +3,6 @@ use Rattle.std.proofs.Common.{◌≡◌, ℕ, zero, suc, ◌+◌, ◌*◌, ◌%�
 use Rattle.std.proofs.Common.{[], length, slice_set, refl, sym, ap, subst, ◌∙◌, add-one, arith}
 use Rattle.std.proofs.lemmas.Bool.Decides.{nat_tests}
 use Rattle.std.proofs.lemmas.Int.{ints}
-use Rattle.std.proofs.lemmas.List.{length-set}
 use Rattle.std.specs.Int.RustNames.{unsigned_abs}
 use Rattle.fixed_num.specs.Lists.{number, list_of}
 use Rattle.fixed_num.specs.Ranges.{IsBetween}
@@ -17,7 +16,7 @@ use Rattle.trial_model.specs.Trial.{with_flows, trial, unsettled_in, next_in, un
 use Rattle.trial_model.proofs.FlowLemmas.{list_same}
 use Rattle.trial_model.proofs.LoopLemmas.{number_same, number_other}
 use Rattle.phase_machine.specs.Kept.{with_links}
-use Rattle.phase_machine.specs.Places.{first_place, link_place, node_place, least_place, word_count, is_odd, is_first}
+use Rattle.phase_machine.specs.Places.{first_place, link_place, node_place, word_count, is_odd, is_first}
 use Rattle.phase_machine.specs.Places.{written, other, link_fixed_in, node_fixed_in, nets_in, IsRead, IsInRange}
 use Rattle.phase_machine.specs.Places.{first, link_fixed, flow, node_fixed, head}
 use Rattle.phase_machine.specs.Steps.{reset_count, reset_place, reset_value}

@@ -1,5 +1,5 @@
 -- What the lead reads, by the state that it knows.
-use Rattle.std.proofs.Common.{◌≡◌, ℕ, ◌+◌, ◌-◌, ◌*◌, ◌^◌, ◌<◌, true, false, nat_lt, ℤ, pos, ◌-ℤ◌, refl, sym, ap, subst, ◌∙◌, arith}
+use Rattle.std.proofs.Common.{◌≡◌, ℕ, ◌+◌, ◌-◌, ◌^◌, ◌<◌, true, false, nat_lt, pos, ◌-ℤ◌, refl, sym, ap, subst, ◌∙◌, arith}
 use Rattle.std.proofs.lemmas.Bool.Decides.{nat_tests}
 use Rattle.fixed_num.specs.Lists.{number}
 use Rattle.phase_law.specs.Law.{Law}
@@ -64,17 +64,8 @@ module _ (law : Law) (plan : Plan) (word : ℕ) where
     sum_at : word - 1 ≡ node_place law n (7 + s)
     sum_at = omega (arith, at)
 
-    pub sum_plain : is_plain law (word - 1) ≡ true
-    sum_plain =
-        let on : nat_lt 6 (7 + s) ≡ true = grind (arith, nat_tests) in
-        ap (is_plain law) sum_at ∙ node_kind law n (7 + s) h (omega (arith, few)) ∙ on
-
     pub told_sum : IsTold law (word - 1)
     told_sum = subst (λ (j : ℕ). IsTold law j) (sym sum_at) (sum n s h few)
-
-    pub read_sum_is : (found : ℕ) → Tells law plan (word - 1) found → pos found ≡ number plan.known (node_place law n (7 + s))
-    read_sum_is found tells =
-        plain_read law plan (word - 1) found sum_plain tells ∙ ap (λ (j : ℕ). number plan.known j) sum_at
 
   -- ---- the least time
   module _ (at : word ≡ least_place law + 1) where

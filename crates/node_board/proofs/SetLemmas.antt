@@ -1,5 +1,5 @@
 -- What the lead sets of links and nodes, and the state that stands then.
-use Rattle.std.proofs.Common.{◌≡◌, ℕ, ◌+◌, ◌-◌, ◌*◌, ◌^◌, ◌<◌, ◌≤◌, ◌⊎◌, inl, inr, false, nat_lt, ℤ, pos, List, length}
+use Rattle.std.proofs.Common.{◌≡◌, ℕ, ◌+◌, ◌-◌, ◌<◌, ◌⊎◌, inl, inr, false, nat_lt, ℤ, pos, List, length}
 use Rattle.std.proofs.Common.{slice_set, slice_index_or, refl, sym, ap, subst, ◌∙◌, arith}
 use Rattle.std.proofs.lemmas.Bool.Decides.{nat_tests}
 use Rattle.std.proofs.lemmas.List.{length-set, get_or-set_same, get_or-set_other}
@@ -19,13 +19,11 @@ use Rattle.trial_model.proofs.RangeLemmas.{listed}
 use Rattle.phase_machine.specs.Places.{link_place, node_place, least_place, word_count, is_odd, written, other}
 use Rattle.phase_machine.specs.Places.{link_fixed_in, node_fixed_in, nets_in, IsRead, IsInRange, LinkWord, NodeWord}
 use Rattle.phase_machine.specs.Places.{link_fixed, flow, node_fixed, head}
-use Rattle.phase_machine.proofs.PlaceLemmas.{equal_or_not, written_few, other_few, link_range, node_range}
+use Rattle.phase_machine.proofs.PlaceLemmas.{equal_or_not, written_few, link_range, node_range}
 use Rattle.phase_machine.proofs.PlaceLemmas.{flow_word, head_word}
 use Rattle.node_board.specs.declared.views.Plan.{Plan}
 use Rattle.node_board.specs.Coding.{is_plain}
-use Rattle.node_board.specs.declared.views.View.{View}
-use Rattle.node_board.specs.Known.{at_known, with_link, with_node, CanSetWord}
-use Rattle.node_board.specs.Seen.{plan_of}
+use Rattle.node_board.specs.Known.{with_link, with_node, CanSetWord}
 use Rattle.node_board.specs.Steps.{Rests}
 use Rattle.node_board.proofs.CodeLemmas.{link_signed, node_kind}
 use Rattle.node_board.proofs.LoadSteps.{link_low, node_low}
@@ -335,8 +333,13 @@ module _ (law : Law) (b n : ℕ) (fixed : NodeFixed) (z : ℤ) (words : List ℤ
   node_others : (k : ℕ) → k < law.nodes → ¬ (k ≡ n)
       → node_fixed_in law (with_node law b n fixed z words) k ≡ node_fixed_in law words k
   node_others k less differ =
-      rw (at_others k 0 differ (omega arith), at_others k 1 differ (omega arith), at_others k 2 differ (omega arith),
-      at_others k 3 differ (omega arith), at_others k 4 differ (omega arith))
+      rw (
+        at_others k 0 differ (omega arith),
+        at_others k 1 differ (omega arith),
+        at_others k 2 differ (omega arith),
+        at_others k 3 differ (omega arith),
+        at_others k 4 differ (omega arith),
+      )
       refl
 
   same_links : (l : ℕ) → l < law.links → link_fixed_in (with_node law b n fixed z words) l ≡ link_fixed_in words l
@@ -369,34 +372,3 @@ module _ (law : Law) (b n : ℕ) (fixed : NodeFixed) (z : ℤ) (words : List ℤ
       (list_same (link_fixed_in (with_node law b n fixed z words)) (link_fixed_in words) no_link law.links same_links)
       (listed_set (node_fixed_in law words) (node_fixed_in law (with_node law b n fixed z words)) law.nodes n fixed no_node h node_is node_others)
       (beside (least_place law) (λ m less kind e. omega (arith, e, less, h)))
-
--- ---- the views of the lead along a call
-module _ {P : Type 0} (v v1 v2 v3 v4 v5 : View P) where
-  pub link_view : (l : ℕ) (fixed : LinkFixed) (q : ℤ) → v1 ≡ at_known v (slice_set (plan_of v).known (link_place l 0) fixed.q_old)
-      → v2 ≡ at_known v1 (slice_set (plan_of v1).known (link_place l 1) fixed.a_old)
-      → v3 ≡ at_known v2 (slice_set (plan_of v2).known (link_place l 2) fixed.setting)
-      → v4 ≡ at_known v3 (slice_set (plan_of v3).known (link_place l 3) fixed.dt)
-      → v5 ≡ at_known v4 (slice_set (plan_of v4).known (link_place l (4 + written (plan_of v4).phase)) q)
-      → v5 ≡ at_known v (with_link (written (plan_of v).phase) l fixed q (plan_of v).known)
-  link_view l fixed q e1 e2 e3 e4 e5 =
-      let f5 : View P → View P = λ x. at_known x (slice_set (plan_of x).known (link_place l (4 + written (plan_of x).phase)) q) in
-      let f4 : View P → View P = λ x. f5 (at_known x (slice_set (plan_of x).known (link_place l 3) fixed.dt)) in
-      let f3 : View P → View P = λ x. f4 (at_known x (slice_set (plan_of x).known (link_place l 2) fixed.setting)) in
-      let f2 : View P → View P = λ x. f3 (at_known x (slice_set (plan_of x).known (link_place l 1) fixed.a_old)) in
-      e5 ∙ ap f5 e4 ∙ ap f4 e3 ∙ ap f3 e2 ∙ ap f2 e1
-
-  pub node_view : (law : Law) (v6 : View P) (n : ℕ) (fixed : NodeFixed) (z : ℤ)
-      → v1 ≡ at_known v (slice_set (plan_of v).known (node_place law n 0) fixed.h_old)
-      → v2 ≡ at_known v1 (slice_set (plan_of v1).known (node_place law n 1) fixed.net_old)
-      → v3 ≡ at_known v2 (slice_set (plan_of v2).known (node_place law n 2) fixed.lateral)
-      → v4 ≡ at_known v3 (slice_set (plan_of v3).known (node_place law n 3) fixed.stage)
-      → v5 ≡ at_known v4 (slice_set (plan_of v4).known (node_place law n 4) fixed.dt)
-      → v6 ≡ at_known v5 (slice_set (plan_of v5).known (node_place law n (5 + written (plan_of v5).phase)) z)
-      → v6 ≡ at_known v (with_node law (written (plan_of v).phase) n fixed z (plan_of v).known)
-  node_view law v6 n fixed z e1 e2 e3 e4 e5 e6 =
-      let f6 : View P → View P = λ x. at_known x (slice_set (plan_of x).known (node_place law n (5 + written (plan_of x).phase)) z) in
-      let f5 : View P → View P = λ x. f6 (at_known x (slice_set (plan_of x).known (node_place law n 4) fixed.dt)) in
-      let f4 : View P → View P = λ x. f5 (at_known x (slice_set (plan_of x).known (node_place law n 3) fixed.stage)) in
-      let f3 : View P → View P = λ x. f4 (at_known x (slice_set (plan_of x).known (node_place law n 2) fixed.lateral)) in
-      let f2 : View P → View P = λ x. f3 (at_known x (slice_set (plan_of x).known (node_place law n 1) fixed.net_old)) in
-      e6 ∙ ap f6 e5 ∙ ap f5 e4 ∙ ap f4 e3 ∙ ap f3 e2 ∙ ap f2 e1

@@ -1,5 +1,5 @@
 -- What stands on a board once its phases are closed is the trial of the state that stood there before.
-use Rattle.std.proofs.Common.{◌≡◌, ℕ, ◌+◌, ◌%◌, Bool, true, false, eqb, pos, sym, ap, subst, ◌∙◌, arith}
+use Rattle.std.proofs.Common.{◌≡◌, ℕ, ◌+◌, Bool, true, false, pos, sym, ap, subst, ◌∙◌, arith}
 use Rattle.std.proofs.lemmas.Bool.Decides.{nat_tests}
 use Rattle.phase_law.specs.Law.{Law}
 use Rattle.trial_model.specs.declared.nets.Nets.{Nets}
@@ -8,7 +8,7 @@ use Rattle.phase_machine.specs.Kept.{with_links}
 use Rattle.phase_machine.specs.Places.{is_odd, written, nets_in}
 use Rattle.node_board.specs.declared.views.Plan.{Plan}
 use Rattle.node_board.specs.Known.{state_in, unsettled_known, nodes_opened, HasFlows}
-use Rattle.node_board.specs.Plays.{trial_of, unsettled_of, IsClosed, Shuts}
+use Rattle.node_board.specs.Plays.{trial_of, unsettled_of, Shuts}
 use Rattle.node_board.proofs.OpenLemmas.{trial_next, unsettled_next}
 
 even_next : (p : ℕ) → is_odd p ≡ true → is_odd (p + 1) ≡ false

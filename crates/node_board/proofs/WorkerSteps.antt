@@ -80,9 +80,6 @@ module _ {P : Type 0} {law : Law} (good : IsLaw law) {key : P} {s : State Unit (
           | inr same ↦ same r.core
         ]
 
-    pub core_after : Act → Core
-    core_after act = by_worker law r.core i act
-
     is_after : (act : Act) → after law r.core (record { seat = i; act = act }) ≡ by_worker law r.core i act
     unfolding after
     is_after act = let e : eqb i 0 ≡ false = grind (arith, nat_tests, later) in rw e refl

@@ -1,5 +1,6 @@
 // That boards are opened by the rule, and that each kind of step keeps it.
-ghost use Rattle.std.specs.Prelude.{◌≡◌, ℕ, Bool, ◌+◌, ◌%◌, ◌^◌, ◌<◌, ◌≤◌, true, false, ℤ, pos, min, [], slice_set, length};
+ghost use Rattle.std.specs.Prelude.{◌≡◌, ℕ, Bool, ◌+◌, ◌%◌, ◌^◌, ◌<◌, ◌≤◌};
+ghost use Rattle.std.specs.Prelude.{true, false, ℤ, pos, min, [], slice_set, length};
 ghost use Rattle.atomic_table.specs.Table.{opening};
 ghost use Rattle.fixed_num.specs.Lists.{number};
 ghost use Rattle.phase_law.specs.Law.{Law};

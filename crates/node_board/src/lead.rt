@@ -1,5 +1,6 @@
 // The single steps of the lead.
-ghost use Rattle.std.specs.Prelude.{◌≡◌, ◌+◌, ◌-◌, ◌<◌, ◌≤◌, true, false, if◌then◌else◌, slice_set, length};
+ghost use Rattle.std.specs.Prelude.{◌≡◌, ◌+◌, ◌-◌, ◌<◌, ◌≤◌, true, false};
+ghost use Rattle.std.specs.Prelude.{if◌then◌else◌, slice_set, length};
 ghost use Rattle.phase_machine.specs.Places.{is_odd, word_count};
 ghost use Rattle.phase_machine.specs.Steps.{reset_count as count_of_resets};
 ghost use Rattle.node_board.specs.Known.{at_known, with_first, all_reset, begun_links, begun_nodes};
@@ -29,9 +30,7 @@ impl<P: PhaseLaw> Board<P> {
         ensures from { IsOf self.now lead.new }
         ensures looks { LooksDone (P.law self.now.law) lead.old.view lead.new.view result }
     {
-        self.words
-            .shared
-            .load::<LookingDone>(&mut lead.place, DONE)
+        self.words.shared.load::<LookingDone>(&mut lead.place, DONE)
     }
 
     /// The next reset.
@@ -132,8 +131,6 @@ impl<P: PhaseLaw> Board<P> {
         ensures same { lead.new ≡ lead.old }
         ensures tells { Tells (P.law self.now.law) (plan_of lead.old.view) (word - 1) result }
     {
-        self.words
-            .shared
-            .load::<Reading>(&mut lead.place, word)
+        self.words.shared.load::<Reading>(&mut lead.place, word)
     }
 }

@@ -38,8 +38,8 @@ impl<P: PhaseLaw> Board<P> {
         &self.law
     }
 
-    /// Opens a phase of links, for a trial of the state that the lead knows; `first` tells whether it is the first trial
-    /// of its step. It takes no memory and waits for nobody.
+    /// Opens a phase of links, for a trial of the state that the lead knows; `first` tells whether it is the first
+    /// trial of its step. It takes no memory and waits for nobody.
     ///
     /// No phase is open, the last one was of nodes or there was none, no word was reset since, and the board wasn't
     /// stopped. Before the phase is opened, the counts, the sums and the least time are reset.

@@ -29,8 +29,8 @@ impl<P: PhaseLaw> Board<P> {
         signed_number(self.read(lead, word))
     }
 
-    /// The head of a node in the state that the lead knows (µm): after the close of a phase of nodes that of the trial,
-    /// or what was set since. It takes no memory and waits for nobody.
+    /// The head of a node in the state that the lead knows (µm): after the close of a phase of nodes that of the
+    /// trial, or what was set since. It takes no memory and waits for nobody.
     ///
     /// No phase is open, and the board wasn't stopped.
     pub fn read_head(&self, lead: &mut Lead<P>, node: u32) -> i64
@@ -97,8 +97,8 @@ impl<P: PhaseLaw> Board<P> {
         amount(self.read(lead, word))
     }
 
-    /// The count of unsettled nodes that the lead knows, after the close of a phase of nodes that of the trial. It takes
-    /// no memory and waits for nobody.
+    /// The count of unsettled nodes that the lead knows, after the close of a phase of nodes that of the trial. It
+    /// takes no memory and waits for nobody.
     ///
     /// No phase is open, and the board wasn't stopped.
     pub fn unsettled(&self, lead: &mut Lead<P>) -> u64

@@ -38,14 +38,15 @@ impl<P: PhaseLaw> Board<P> {
         requires range { IsFlow flow }
         ensures from { IsOf self.now lead.new }
         ensures view { let plan = plan_of lead.old.view in
-            lead.new.view ≡ at_known lead.old.view (slice_set plan.known (link_place link (4 + written plan.phase)) flow) }
+            let place = link_place link (4 + written plan.phase) in
+            lead.new.view ≡ at_known lead.old.view (slice_set plan.known place flow) }
     {
         let word = link_word(link, 4 + written_buffer(lead.phase));
         self.set_signed(lead, word, flow);
     }
 
-    /// Sets what stays the same for a link over the trials of a step, and its flow (cm³/s), which the next trial reads.
-    /// It takes no memory and waits for nobody.
+    /// Sets what stays the same for a link over the trials of a step, and its flow (cm³/s), which the next trial
+    /// reads. It takes no memory and waits for nobody.
     ///
     /// No phase is open, the last one was of nodes or there was none, and the board wasn't stopped. All numbers lie in
     /// the law's ranges.
@@ -103,8 +104,8 @@ impl<P: PhaseLaw> Board<P> {
         self.set_signed(lead, word, head);
     }
 
-    /// Sets what stays the same for a node over the trials of a step, and its head (µm), which the next trial reads. It
-    /// takes no memory and waits for nobody.
+    /// Sets what stays the same for a node over the trials of a step, and its head (µm), which the next trial reads.
+    /// It takes no memory and waits for nobody.
     ///
     /// No phase is open, the last one was of nodes or there was none, and the board wasn't stopped. All numbers lie in
     /// the law's ranges.
@@ -117,7 +118,8 @@ impl<P: PhaseLaw> Board<P> {
         requires head { HeadInRange (P.law self.now.law) head }
         ensures from { IsOf self.now lead.new }
         ensures view { let law = P.law self.now.law in let plan = plan_of lead.old.view in
-            lead.new.view ≡ at_known lead.old.view (with_node law (written plan.phase) node fixed.now head plan.known) }
+            let words = with_node law (written plan.phase) node fixed.now head plan.known in
+            lead.new.view ≡ at_known lead.old.view words }
         ensures state { let law = P.law self.now.law in let old = state_in law (plan_of lead.old.view) in
             state_in law (plan_of lead.new.view)
             ≡ record old { nodes = slice_set old.nodes node fixed.now; heads = slice_set old.heads node head } }

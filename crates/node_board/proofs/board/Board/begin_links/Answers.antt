@@ -1,4 +1,4 @@
-use Rattle.std.proofs.Common.{◌≡◌, ℕ, false, ◌+◌, ◌∙◌, ap, sym, arith}
+use Rattle.std.proofs.Common.{ℕ, false, ◌+◌, ◌∙◌, ap, sym, arith}
 use Rattle.node_board.specs.Coding.{claim_word}
 use Rattle.node_board.specs.Known.{CanBegin}
 use Rattle.node_board.specs.Seen.{plan_of}

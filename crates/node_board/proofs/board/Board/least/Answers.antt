@@ -2,7 +2,7 @@ use Rattle.std.proofs.Common.{◌≡◌, ◌+◌, ◌∙◌, subst, w64}
 use Rattle.std.proofs.lemmas.Int.{to_z-of_z}
 use Rattle.phase_machine.specs.Places.{least_place}
 use Rattle.node_board.specs.Seen.{BoardSeen, plan_of}
-use Rattle.node_board.proofs.ReadLemmas.{told_least, least_word_plain, read_least_is}
+use Rattle.node_board.proofs.ReadLemmas.{told_least, read_least_is}
 use Rattle.node_board.proofs.board.Board.least.Goals as goal
 
 pub read-requires-clause-told : goal.read-requires-clause-told

@@ -1,4 +1,4 @@
-use Rattle.std.proofs.Common.{◌≡◌, ℕ, ◌≤◌}
+use Rattle.std.proofs.Common.{◌≡◌, ◌≤◌}
 use Rattle.node_board.specs.Known.{reset_words}
 use Rattle.node_board.specs.Plays.{at_plan}
 use Rattle.node_board.specs.Seen.{IsOf, plan_of}
