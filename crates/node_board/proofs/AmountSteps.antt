@@ -43,7 +43,7 @@ shares_in {law} good c kept =
     }
 
 -- the least word of a phase of links is a time
-least_low : {law : Law} → IsLaw law → (c : Core) → Kept law c → is_odd c.phase ≡ true → pos 0 ≤ℤ number c.words (least_place law)
+pub least_low : {law : Law} → IsLaw law → (c : Core) → Kept law c → is_odd c.phase ≡ true → pos 0 ≤ℤ number c.words (least_place law)
 least_low {law} good c kept odd =
     elim ((kept.links odd).least_one) [
       | inl most ↦ omega (arith, ints, most)

@@ -33,7 +33,7 @@ use Rattle.node_board.specs.Plays.{at_plan, reset_once}
 use Rattle.node_board.proofs.ShowLemmas.{seat_is, seat_in, show_word, show_claim}
 use Rattle.node_board.proofs.WorkerSteps.{kept}
 
-reset_inside : (law : Law) (r phase : ℕ) → r < reset_count law phase → reset_place law r < word_count law
+pub reset_inside : (law : Law) (r phase : ℕ) → r < reset_count law phase → reset_place law r < word_count law
 reset_inside law r phase left = let few = reset_most (is_odd phase) in grind (arith, few)
   where
     reset_most : (t : Bool) → (if t then 1 else 3 + 3 * law.nodes) ≤ 3 + 3 * law.nodes
@@ -160,6 +160,10 @@ module _ {P : Type 0} {law : Law} (good : IsLaw law) {key : P} {s : State Unit (
       ∙ ap (λ (x : ℤ). coded law (reset_place law r.core.resets) x) value)))
       r.few_phases
       (λ h. absurd (resting_not stop h))
+
+  -- while no phase is open, the lead knows as many numbers as there are words behind the claim word
+  pub known_size : plan.is_open ≡ false → length plan.known ≡ word_count law
+  known_size off = ap length (knows.known (sym knows.is_open ∙ off)) ∙ (kept good r).words
 
   -- the storing of a value that the next trial reads
   pub set_keeps : plan.is_open ≡ false → plan.stopped ≡ false → is_odd plan.phase ≡ false → (j : ℕ) (value : ℤ)
@@ -320,9 +324,15 @@ pub set_allowed : {P : Type 0} (law : Law) → IsLaw law → (key : P) (slots i 
     → plan.is_open ≡ false → plan.stopped ≡ false → is_odd plan.phase ≡ false → (j : ℕ) (value : ℤ)
     → IsRead law (written plan.phase) j → IsInRange law j value → (n : ℕ) → n ≡ coded law j value
     → Allows {S = Unit {0}} (IsRuled law key) slots i (v, []) (j + 1) (λ m. n)
-    (λ m me. me ≡ (at_plan v (record plan { known = slice_set plan.known j value }), []))
-set_allowed law good key slots i v plan leads off on even j value read range n code s r homes at small =
-    (_, keeps, tt, set_keeps good r i v plan at leads off on even j value read range n code, refl)
+    (λ m me. (me ≡ (at_plan v (record plan { known = slice_set plan.known j value }), []))
+    × (length plan.known ≡ word_count law))
+set_allowed law good key slots i v plan leads off on even j value read range n code s r homes at small = (
+  _,
+  keeps,
+  tt,
+  set_keeps good r i v plan at leads off on even j value read range n code,
+  (refl, known_size good r i v plan at leads off),
+)
 
 pub open_links_allowed : {P : Type 0} (law : Law) → IsLaw law → (key : P) (slots i : ℕ) (v : View P) (plan : Plan)
     → v.role ≡ Leads plan → plan.is_open ≡ false → plan.stopped ≡ false → is_odd plan.phase ≡ false

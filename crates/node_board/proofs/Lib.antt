@@ -17,3 +17,10 @@ pub mod ClaimCalls
 pub mod DepositLemmas
 pub mod LoadLemmas
 pub mod FurtherLemmas
+pub mod CountedLemmas
+pub mod ReadSteps
+pub mod LeadCalls
+pub mod OpenLemmas
+pub mod SetLemmas
+pub mod ReadLemmas
+pub mod TrialLemmas

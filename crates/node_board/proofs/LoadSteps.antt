@@ -38,7 +38,7 @@ use Rattle.node_board.proofs.ReachedLemmas.{kept_of_reached}
 use Rattle.node_board.proofs.WorkerSteps.{kept, works_at, within, reached_after}
 
 -- ---- the places that items load
-data Input (law : Law) : ℕ → Type 0 where
+pub data Input (law : Law) : ℕ → Type 0 where
   of_link : (l k : ℕ) → l < law.links → k < 6 → Input law (link_place l k)
   of_node : (n k : ℕ) → n < law.nodes → k < 7 → Input law (node_place law n k)
   of_first : Input law first_place
@@ -50,7 +50,7 @@ input_inside law _ (of_node n k h few) = omega arith
 input_inside law _ of_first = omega arith
 input_inside law _ (of_sum n s h few) = omega arith
 
-link_low : (k : ℕ) (v : ℤ) → k < 6 → LinkWord k v → pos 0 ≤ℤ (v +ℤ pos (2 ^ 63))
+pub link_low : (k : ℕ) (v : ℤ) → k < 6 → LinkWord k v → pos 0 ≤ℤ (v +ℤ pos (2 ^ 63))
 link_low zero v few range = omega (arith, ints, range.within)
 link_low (suc zero) v few range = omega (arith, ints, range.from)
 link_low (suc (suc zero)) v few range = omega (arith, ints, range.from)
@@ -59,7 +59,7 @@ link_low (suc (suc (suc (suc zero)))) v few range = omega (arith, ints, range.wi
 link_low (suc (suc (suc (suc (suc zero))))) v few range = omega (arith, ints, range.within)
 link_low (suc (suc (suc (suc (suc (suc k)))))) v few range = absurd (omega arith)
 
-node_low : (law : Law) → IsLaw law → (k : ℕ) (v : ℤ) → k < 7 → NodeWord law k v → pos 0 ≤ℤ (v +ℤ pos (2 ^ 63))
+pub node_low : (law : Law) → IsLaw law → (k : ℕ) (v : ℤ) → k < 7 → NodeWord law k v → pos 0 ≤ℤ (v +ℤ pos (2 ^ 63))
 node_low law good zero v few range = omega (arith, ints, range.within, good.limit_most)
 node_low law good (suc zero) v few range = omega (arith, ints, range.within)
 node_low law good (suc (suc zero)) v few range = omega (arith, ints, range.within)
@@ -70,7 +70,7 @@ node_low law good (suc (suc (suc (suc (suc (suc zero)))))) v few range = omega (
 node_low law good (suc (suc (suc (suc (suc (suc (suc k))))))) v few range = absurd (omega arith)
 
 -- what is loaded from a word is the machine's number
-input_back : (law : Law) → IsLaw law → (j : ℕ) (v : ℤ) → Input law j → IsInRange law j v
+pub input_back : (law : Law) → IsLaw law → (j : ℕ) (v : ℤ) → Input law j → IsInRange law j v
     → ((n s : ℕ) → n < law.nodes → s < 3 → j ≡ node_place law n (7 + s) → pos 0 ≤ℤ v)
     → decoded law j (coded law j v) ≡ v
 input_back law good _ v (of_link l k h few) range sums =

@@ -32,7 +32,7 @@ use Rattle.node_board.proofs.ReachedLemmas.{kept_of_reached}
 use Rattle.node_board.proofs.ShowLemmas.{seat_is, seat_in}
 
 -- an act that changes a word is made on an item
-held : (law : Law) (w : Work) (act : Act) → CanWork law w act
+pub held : (law : Law) (w : Work) (act : Act) → CanWork law w act
     → (1 ≤ w.stage) ⊎ ((c : Core) → words_after law c w act ≡ c.words)
 unfolding words_after
 held law w Look can = inr (λ c. refl)
@@ -79,9 +79,6 @@ module _ {P : Type 0} {law : Law} (good : IsLaw law) {key : P} {s : State Unit (
               let no : true ≡ false = sym on ∙ off in cc
           | inr same ↦ same r.core
         ]
-
-    pub core_after : Act → Core
-    core_after act = by_worker law r.core i act
 
     is_after : (act : Act) → after law r.core (record { seat = i; act = act }) ≡ by_worker law r.core i act
     unfolding after

@@ -8,3 +8,5 @@ pub mod Steps
 pub mod Opening
 pub mod Claims
 pub mod Acts
+pub mod Known
+pub mod TwoLinks

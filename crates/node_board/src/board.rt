@@ -11,7 +11,7 @@ use std::alloc::Global;
 use std::marker::Model;
 
 /// The words of a board.
-type Words<P> = Table<(), View<P>, P, BoardRule, Global>;
+pub(crate) type Words<P> = Table<(), View<P>, P, BoardRule, Global>;
 
 /// The board on which seats share the trials of a law. Contracts see its table and its law.
 #[derive(Drop)]

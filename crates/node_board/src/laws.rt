@@ -1,13 +1,17 @@
 // That boards are opened by the rule, and that each kind of step keeps it.
-ghost use Rattle.std.specs.Prelude.{◌≡◌, ℕ, ◌+◌, ◌%◌, ◌^◌, ◌<◌, ◌≤◌, true, false, ℤ, pos, min, [], slice_set};
+ghost use Rattle.std.specs.Prelude.{◌≡◌, ℕ, Bool, ◌+◌, ◌%◌, ◌^◌, ◌<◌, ◌≤◌};
+ghost use Rattle.std.specs.Prelude.{true, false, ℤ, pos, min, [], slice_set, length};
 ghost use Rattle.atomic_table.specs.Table.{opening};
 ghost use Rattle.fixed_num.specs.Lists.{number};
 ghost use Rattle.phase_law.specs.Law.{Law};
 ghost use Rattle.phase_law.specs.Laws.{IsLaw};
+ghost use Rattle.trial_model.specs.declared.nets.Nets.{Nets};
+ghost use Rattle.trial_model.specs.Trial.{trial, unsettled_in, with_flows};
 ghost use Rattle.phase_machine.specs.declared.acts.Act.{Act};
 ghost use Rattle.phase_machine.specs.declared.acts.Act.TheVariants.{OfferTime, PutFlow, PutHead, MarkUnsettled, Done};
 ghost use Rattle.phase_machine.specs.declared.work.Work.{Work};
 ghost use Rattle.phase_machine.specs.Asks.{AsksLink, AsksNode};
+ghost use Rattle.phase_machine.specs.Kept.{with_links};
 ghost use Rattle.phase_machine.specs.Items.{Deposit, share_at, next_at};
 ghost use Rattle.phase_machine.specs.Places.{done_place, unsettled_place, node_place, least_place, word_count};
 ghost use Rattle.phase_machine.specs.Places.{is_odd, written, IsRead, IsInRange};
@@ -16,8 +20,10 @@ ghost use Rattle.node_board.specs.declared.views.Plan.{Plan};
 ghost use Rattle.node_board.specs.declared.views.Role.TheVariants.{Leads, Works};
 ghost use Rattle.node_board.specs.declared.views.View.{View};
 ghost use Rattle.node_board.specs.Coding.{claim_word, stop_word, coded, decoded};
+ghost use Rattle.node_board.specs.Known.{IsTold, Tells, HasFlows, state_in, unsettled_known, nodes_opened};
 ghost use Rattle.node_board.specs.Opening.{first_words, first_view};
 ghost use Rattle.node_board.specs.Plays.{looked, took, at_work, at_plan, reset_once, DonePlay, after_split, new_seat};
+ghost use Rattle.node_board.specs.Plays.{Shuts, trial_of, unsettled_of};
 ghost use Rattle.node_board.specs.Rule.{IsRuled};
 ghost use Rattle.node_board.specs.Steps.{Keeps, KeepsSplit, ended, flow_place, head_place, load_place};
 ghost use Rattle.node_board.specs.Steps.{AskedWhenLoaded, Loads, Deposits, Rests, IsReset};
@@ -78,7 +84,8 @@ pub fn leads_keep_the_rule<P: PhaseLaw>()
     ensures set { (law : Law) (key : P) (v : View P) (plan : Plan) (j : ℕ) (value : ℤ) (n : ℕ) → IsLaw law
         → v.role ≡ Leads plan → Rests plan → is_odd plan.phase ≡ false → IsRead law (written plan.phase) j
         → IsInRange law j value → n ≡ coded law j value → Keeps law key v (j + 1) (λ m. n)
-        (λ m me. me ≡ (at_plan v (record plan { known = slice_set plan.known j value }), [])) }
+        (λ m me. (me ≡ (at_plan v (record plan { known = slice_set plan.known j value }), []))
+        × (length plan.known ≡ word_count law)) }
     ensures open_links { (law : Law) (key : P) (v : View P) (plan : Plan) (n : ℕ) → IsLaw law
         → v.role ≡ Leads plan → Rests plan → is_odd plan.phase ≡ false → IsReset law plan
         → n ≡ claim_word (plan.phase + 1) 0 → Keeps law key v 0 (λ m. n) (λ m me.
@@ -92,4 +99,24 @@ pub fn leads_keep_the_rule<P: PhaseLaw>()
     ensures read { (law : Law) (key : P) (v : View P) (plan : Plan) (j : ℕ) → IsLaw law → v.role ≡ Leads plan
         → plan.is_open ≡ false → j < word_count law → Keeps law key v (j + 1) (λ m. m)
         (λ m me. (me ≡ (v, [])) × (m ≡ coded law j (number plan.known j))) }
+    ensures tell { (law : Law) (key : P) (v : View P) (plan : Plan) (j : ℕ) → IsLaw law → v.role ≡ Leads plan
+        → plan.is_open ≡ false → IsTold law j → Keeps law key v (j + 1) (λ m. m)
+        (λ m me. (me ≡ (v, [])) × Tells law plan j m) }
+{}
+
+/// Whatever the seats did, and in whatever order: what stands on the board once its phases are closed is made as one
+/// worker makes it. After a phase of links the lead knows the flows, the sums and the least time of the trial of the
+/// state that it opened, and after the phase of nodes the whole trial and its count of unsettled nodes.
+///
+/// The premises are what [`Board::open_links`](crate::Board::open_links), [`Board::close`](crate::Board::close) and
+/// [`Board::open_nodes`](crate::Board::open_nodes) tell.
+pub fn closed_phases_are_those_of_a_trial()
+    ensures links { (law : Law) (s : Nets) (begun : Bool) (first links : Plan) → is_odd first.phase ≡ true
+        → with_links law first.opened first.phase ≡ with_flows law s begun → Shuts law first links
+        → HasFlows (state_in law links) (with_flows law s begun) }
+    ensures nodes { (law : Law) (s : Nets) (begun : Bool) (first links nodes : Plan) → is_odd first.phase ≡ true
+        → trial_of law first.opened first.phase ≡ trial law s begun
+        → unsettled_of law first.opened first.phase ≡ unsettled_in law s begun
+        → Shuts law first links → Shuts law (nodes_opened law links) nodes
+        → (state_in law nodes ≡ trial law s begun) × (unsettled_known nodes ≡ pos (unsettled_in law s begun)) }
 {}

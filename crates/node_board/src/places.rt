@@ -16,7 +16,7 @@ pub(crate) const DONE: usize = 1;
 pub(crate) const UNSETTLED: usize = 2;
 
 /// The word that is 1 in the first trial of a step.
-const FIRST: usize = 3;
+pub(crate) const FIRST: usize = 3;
 
 /// What stands in a word for 0 where numbers may be below 0.
 const HALF: u64 = 9_223_372_036_854_775_808;

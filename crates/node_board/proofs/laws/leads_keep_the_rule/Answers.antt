@@ -1,6 +1,7 @@
 use Rattle.node_board.proofs.DoneSteps.{done_allowed}
 use Rattle.node_board.proofs.LeadSteps.{reset_allowed, set_allowed, open_links_allowed, open_nodes_allowed}
 use Rattle.node_board.proofs.LeadSteps.{stop_allowed, read_allowed}
+use Rattle.node_board.proofs.ReadSteps.{told_allowed}
 use Rattle.node_board.proofs.laws.leads_keep_the_rule.Goals as goal
 
 pub returns-clause-done : goal.returns-clause-done
@@ -29,3 +30,7 @@ returns-clause-stop g c =
 pub returns-clause-read : goal.returns-clause-read
 returns-clause-read g c =
     λ law key v plan j good leads off within slots i. read_allowed law good key slots i v plan leads off j within
+
+pub returns-clause-tell : goal.returns-clause-tell
+returns-clause-tell g c =
+    λ law key v plan j good leads off told slots i. told_allowed law good key slots i v plan leads off j told
