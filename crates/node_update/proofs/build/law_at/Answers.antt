@@ -6,7 +6,7 @@ use Rattle.fixed_num.specs.Ranges.{IsBetween, IsElevation}
 use Rattle.net_types.specs.Records.{node_at}
 use Rattle.node_update.proofs.BuildLemmas.{conduit_is, deep_is, end_inside, end_is, ends_length, height_in, height_is, heights_length, law_in, law_is, node_in, node_is}
 use Rattle.node_update.proofs.build.law_at.Goals as goal
-use Rattle.node_update.proofs.build.law_at.Goals.{After-found_end}
+use Rattle.node_update.proofs.build.law_at.Goals.{After-node_rule-rule}
 
 pub bounds-ends-n : goal.bounds-ends-n
 bounds-ends-n c = omega (arith, c.requires.node, ends_length c.args.project.now c.args.ends.now c.requires.ends)
@@ -14,35 +14,35 @@ bounds-ends-n c = omega (arith, c.requires.node, ends_length c.args.project.now 
 pub bounds-heights-n : goal.bounds-heights-n
 bounds-heights-n c = omega (arith, c.requires.node, heights_length c.args.project.now c.args.heights.now c.requires.heights)
 
-pub found_end-requires-clause-link : goal.found_end-requires-clause-link
-found_end-requires-clause-link c =
+pub node_rule-requires-clause-link : goal.node_rule-requires-clause-link
+node_rule-requires-clause-link c =
     end_inside c.args.project.now c.args.n c.requires.node _ (end_is c.args.project.now c.args.n c.requires.node c.args.ends.now _ c.requires.ends)
 
-node : (c : After-found_end) → c.index-as_slice-n.result ≡ node_at c.args.project.now.nodes c.args.n
+node : (c : After-node_rule-rule) → c.index-as_slice-n.result ≡ node_at c.args.project.now.nodes c.args.n
 node c = node_is c.args.project.now c.args.n c.requires.node c.as_slice.result.now c.index-as_slice-n.result c.as_slice.ensures c.index-as_slice-n.is
 
-invert : (c : After-found_end) → IsElevation c.index-as_slice-n.result.invert
+invert : (c : After-node_rule-rule) → IsElevation c.index-as_slice-n.result.invert
 invert c = let range = node_in c.args.project.now c.args.n c.requires.node c.requires.faultless.sound c.index-as_slice-n.result (node c) in range.invert_in
 
-full : (c : After-found_end) → IsBetween (pos 0) (number c.args.heights.now c.args.n) (pos (2 * 10 ^ 9))
+full : (c : After-node_rule-rule) → IsBetween (pos 0) (number c.args.heights.now c.args.n) (pos (2 * 10 ^ 9))
 full c = height_in c.args.project.now c.args.n c.requires.node c.requires.faultless.sound c.args.heights.now c.requires.heights
 
 pub node_rule-requires-clause-deep : goal.node_rule-requires-clause-deep
 node_rule-requires-clause-deep c =
     let y_max : FitsSigned w64 c.index-as_slice-n.result.y_max = search rules in
     simp (to_z-of_z, y_max)
-    (deep_is c.args.project.now c.args.n c.requires.node c.requires.faultless c.index-as_slice-n.result (node (goal.at.node_rule-requires-clause-deep c).After-found_end))
+    (deep_is c.args.project.now c.args.n c.requires.node c.requires.faultless c.index-as_slice-n.result (node (goal.at.node_rule-requires-clause-deep c).After-node_rule-rule))
 
 pub overflow_add-result : goal.overflow_add-result
 overflow_add-result c =
-    let d = (goal.at.overflow_add-result c).After-found_end in
+    let d = (goal.at.overflow_add-result c).After-node_rule-rule in
     let low = invert d in
     let high = within_between (full d) in
     simp (to_z-of_z, fits64 low tt, fits64 high tt) (fits64 (within_add low high) tt)
 
 pub overflow_add-result-2 : goal.overflow_add-result-2
 overflow_add-result-2 c =
-    let d = (goal.at.overflow_add-result-2 c).After-found_end in
+    let d = (goal.at.overflow_add-result-2 c).After-node_rule-rule in
     let low = invert d in
     let high = within_between (full d) in
     let sum = within_add low high in
@@ -51,7 +51,7 @@ overflow_add-result-2 c =
 
 pub returns-clause-value : goal.returns-clause-value
 returns-clause-value c =
-    let d = (goal.at.returns-clause-value c).After-found_end in
+    let d = (goal.at.returns-clause-value c).After-node_rule-rule in
     let project = c.args.project.now in
     let low = invert d in
     let high = within_between (full d) in
@@ -60,7 +60,7 @@ returns-clause-value c =
     let options = c.requires.faultless.sound.options in
     let y_max : FitsSigned w64 c.index-as_slice-n.result.y_max = search rules in
     let rule = simp (to_z-of_z, y_max) at c.in_ok-rule.ensures.value in
-    let conduit = conduit_is project c.args.n _ c.found_end.result c.found_end.ensures.value (end_is project c.args.n c.requires.node c.args.ends.now _ c.requires.ends) in
+    let conduit = conduit_is project c.args.n _ (end_of project _) refl (end_is project c.args.n c.requires.node c.args.ends.now _ c.requires.ends) in
     simp (
       to_z-of_z,
       fits64 low tt,
@@ -71,12 +71,12 @@ returns-clause-value c =
       fits64 (within_between options.area_in) tt,
       fits64 (within_between options.tolerance_in) tt,
     )
-    (law_is project c.args.n c.index-as_slice-n.result c.in_ok-rule.rule (number c.args.heights.now c.args.n) c.room.result c.found_end.result
+    (law_is project c.args.n c.index-as_slice-n.result c.in_ok-rule.rule (number c.args.heights.now c.args.n) c.room.result _
     (node d) conduit rule (height_is project c.args.n c.requires.node c.args.heights.now c.requires.heights) c.room.ensures.value)
 
 pub returns-clause-range : goal.returns-clause-range
 returns-clause-range c =
-    let d = (goal.at.returns-clause-range c).After-found_end in
+    let d = (goal.at.returns-clause-range c).After-node_rule-rule in
     let low = invert d in
     let high = within_between (full d) in
     let sum = within_add low high in
