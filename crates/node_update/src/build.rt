@@ -84,13 +84,7 @@ fn law_at(
     ensures range { IfOk result IsNodeLaw }
 {
     let node = &project.nodes.as_slice()[n];
-    let rule = node_rule(
-        alloc,
-        project,
-        &node.kind,
-        node.y_max,
-        ends[n],
-    )?;
+    let rule = node_rule(alloc, project, &node.kind, node.y_max, ends[n])?;
     let full = heights[n];
     Ok(NodeLaw {
         rule,

@@ -12,5 +12,5 @@ returns c =
     let low : c.args.section.now.full ≤ℤ pos 10_000_000 = grind (arith, ints, test) in
     simp (to_z-of_z, fits128 (within_between c.strip_area.ensures.range) tt)
     (λ h. let wide : pos 1_000_000 ≤ℤ c.strip_area.result = grind (arith, ints, h) in
-      plain_area c.args.section.now 100 200 c.requires (omega arith) (omega arith) (sym c.is_narrow.ensures ∙ c.if-not-is_narrow.false) low
-      (subst (λ (z : ℤ). pos 1_000_000 ≤ℤ z) c.strip_area.ensures.value wide))
+    plain_area c.args.section.now 100 200 c.requires (omega arith) (omega arith) (sym c.is_narrow.ensures ∙ c.if-not-is_narrow.false) low
+    (subst (λ (z : ℤ). pos 1_000_000 ≤ℤ z) c.strip_area.ensures.value wide))
