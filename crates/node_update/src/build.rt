@@ -84,13 +84,7 @@ fn law_at(
     ensures range { IfOk result IsNodeLaw }
 {
     let node = &project.nodes.as_slice()[n];
-    let rule = node_rule(
-        alloc,
-        project,
-        &node.kind,
-        node.y_max,
-        found_end(project, ends[n]),
-    )?;
+    let rule = node_rule(alloc, project, &node.kind, node.y_max, ends[n])?;
     let full = heights[n];
     Ok(NodeLaw {
         rule,
@@ -128,21 +122,21 @@ fn ponded_area(options: &Options, pond: i64) -> i64
     if options.ponding { pond } else { 0 }
 }
 
-// The rule of a node of this kind and greatest depth, at which this conduit ends.
+// The rule of a node of this kind and greatest depth, at which this link ends.
 fn node_rule(
     alloc: Global,
     project: &Project,
     kind: &NodeKind,
     y_max: i64,
-    conduit: Option<OutfallConduit>,
+    link: Option<u32>,
 ) -> Result<NodeRule, OutOfMemory>
     requires sound { IsSound project.now }
     requires kind { NodeKindInRange kind.now }
     requires names { NodeKindNames project.now kind.now }
     requires depth { IsDepth y_max }
     requires deep { IsTrue (is_storage_kind kind.now) → pos 1_000 ≤ℤ y_max }
-    requires conduit { IfSome conduit IsOutfallConduit }
-    ensures value { IfOk result (λ rule. rule ≡ rule_of project.now kind.now y_max conduit) }
+    requires link { IfSome link (λ l. l < length project.now.links) }
+    ensures value { IfOk result (λ rule. rule ≡ rule_of project.now kind.now y_max (end_of project.now link)) }
     ensures range { IfOk result IsNodeRule }
 {
     match kind {
@@ -153,7 +147,7 @@ fn node_rule(
             alloc, project, shape, y_max,
         )?)),
         NodeKind::Outfall { stage, .. } => {
-            Ok(NodeRule::Outfall(outfall_level(alloc, stage, conduit)?))
+            Ok(NodeRule::Outfall(outfall_level(alloc, project, stage, link)?))
         }
     }
 }
@@ -188,19 +182,22 @@ fn store_units(units: FlowUnits) -> StoreUnits
     }
 }
 
-// What sets the level at an outfall of this stage, at which this conduit ends.
+// What sets the level at an outfall of this stage, at which this link ends. The table of its section is made only where
+// the level goes by it.
 fn outfall_level(
     alloc: Global,
+    project: &Project,
     stage: &Stage,
-    conduit: Option<OutfallConduit>,
+    link: Option<u32>,
 ) -> Result<OutfallLevel, OutOfMemory>
-    requires { IfSome conduit IsOutfallConduit }
-    ensures value { IfOk result (λ level. level ≡ level_of stage.now conduit) }
+    requires sound { IsSound project.now }
+    requires link { IfSome link (λ l. l < length project.now.links) }
+    ensures value { IfOk result (λ level. level ≡ level_of stage.now (end_of project.now link)) }
     ensures range { IfOk result IsOutfallLevel }
 {
     match stage {
-        Stage::Free => free_level(alloc, conduit),
-        Stage::Normal => normal_level(alloc, conduit),
+        Stage::Free => free_level(alloc, found_end(project, link)),
+        Stage::Normal => normal_level(alloc, found_end(project, link)),
         Stage::Fixed(_) | Stage::Tidal(_) | Stage::Series(_) => Ok(OutfallLevel::AtStage),
     }
 }

@@ -105,6 +105,9 @@ fn has_good_area(section: &Section) -> bool
     requires { SectionInRange section.now }
     ensures { result ≡ has_good_area section.now }
 {
+    if Table::has_plain_area(section) {
+        return true;
+    }
     let area = section_area(section);
     area != 0 && area <= MOST_AREA
 }

@@ -18,20 +18,18 @@ half_up n k q h e =
 pub share_most : (rise part run : ℕ) → part ≤ run → rounded (rise * part) run ≤ rise
 share_most rise part run h = rounded_most (rise * part) run rise (mul-le-mul_left {m = part} {n = run} rise h)
 
-pub flat : (x0 y0 x1 y1 x : ℤ) → y0 ≡ y1 → y0 ≡ lerp_of x0 y0 x1 y1 x
+pub rising : (y0 y1 : ℤ) (part run : ℕ) → y0 <ℤ y1 → y0 +ℤ pos (rounded (unsigned_abs (y1 -ℤ y0) * part) run) ≡ lerp_of (pos 0) y0 (pos run) y1 (pos part)
 unfolding lerp_of
-flat x0 y0 x1 y1 x e =
-    let none : (y1 -ℤ y0) *ℤ (x -ℤ x0) ≡ pos 0 = let zero : y1 -ℤ y0 ≡ pos 0 = omega (arith, ints, e) in rw zero (omega (arith, ints)) in
-    rw (none, quo_of-zero (x1 -ℤ x0)) (omega (arith, ints))
+rising y0 y1 part run up =
+    let sign = product_from_zero (y1 -ℤ y0) (pos part) (omega (arith, ints)) (omega (arith, ints)) in
+    let from : pos part -ℤ pos 0 ≡ pos part = omega (arith, ints) in
+    let whole : pos run -ℤ pos 0 ≡ pos run = omega (arith, ints) in
+    rw (from, whole, quo_of_up ((y1 -ℤ y0) *ℤ pos part) (pos run) sign, unsigned_abs-mul (y1 -ℤ y0) (pos part)) refl
 
-pub rising : (x0 y0 x1 y1 x : ℤ) → y0 <ℤ y1 → x0 ≤ℤ x → y0 +ℤ pos (rounded (unsigned_abs (y1 -ℤ y0) * unsigned_abs (x -ℤ x0)) (unsigned_abs (x1 -ℤ x0))) ≡ lerp_of x0 y0 x1 y1 x
+pub falling : (y0 y1 : ℤ) (part run : ℕ) → y1 ≤ℤ y0 → y0 -ℤ pos (rounded (unsigned_abs (y1 -ℤ y0) * part) run) ≡ lerp_of (pos 0) y0 (pos run) y1 (pos part)
 unfolding lerp_of
-rising x0 y0 x1 y1 x up from =
-    let sign = product_from_zero (y1 -ℤ y0) (x -ℤ x0) (omega (arith, ints)) (omega (arith, ints)) in
-    rw (quo_of_up ((y1 -ℤ y0) *ℤ (x -ℤ x0)) (x1 -ℤ x0) sign, unsigned_abs-mul (y1 -ℤ y0) (x -ℤ x0)) refl
-
-pub falling : (x0 y0 x1 y1 x : ℤ) → y1 ≤ℤ y0 → x0 ≤ℤ x → y0 -ℤ pos (rounded (unsigned_abs (y1 -ℤ y0) * unsigned_abs (x -ℤ x0)) (unsigned_abs (x1 -ℤ x0))) ≡ lerp_of x0 y0 x1 y1 x
-unfolding lerp_of
-falling x0 y0 x1 y1 x down from =
-    let sign = product_to_zero (y1 -ℤ y0) (x -ℤ x0) (omega (arith, ints)) (omega (arith, ints)) in
-    rw (quo_of_down ((y1 -ℤ y0) *ℤ (x -ℤ x0)) (x1 -ℤ x0) sign, unsigned_abs-mul (y1 -ℤ y0) (x -ℤ x0)) (omega (arith, ints))
+falling y0 y1 part run down =
+    let sign = product_to_zero (y1 -ℤ y0) (pos part) (omega (arith, ints)) (omega (arith, ints)) in
+    let from : pos part -ℤ pos 0 ≡ pos part = omega (arith, ints) in
+    let whole : pos run -ℤ pos 0 ≡ pos run = omega (arith, ints) in
+    rw (from, whole, quo_of_down ((y1 -ℤ y0) *ℤ pos part) (pos run) sign, unsigned_abs-mul (y1 -ℤ y0) (pos part)) (omega (arith, ints))

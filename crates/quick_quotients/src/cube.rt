@@ -13,7 +13,7 @@ pub fn quick_root3(a: i128) -> i128
     ensures { result ≡ root3_of a }
 {
     if a >= LONG {
-        return root3(a);
+        return any_root3(a);
     }
     let whole = a as u128;
     let guess = guess_root3(whole);
@@ -23,6 +23,16 @@ pub fn quick_root3(a: i128) -> i128
     if is_root3(whole, guess + 1) {
         return (guess + 1) as i128;
     }
+    any_root3(a)
+}
+
+// The same by halving.
+#[cold]
+#[inline(never)]
+fn any_root3(a: i128) -> i128
+    requires { pos 0 ≤ℤ a }
+    ensures { result ≡ root3_of a }
+{
     root3(a)
 }
 

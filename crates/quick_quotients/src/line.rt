@@ -7,32 +7,37 @@ ghost use Rattle.fixed_num.specs.Rounding.{rounded as rounded_of};
 use crate::quotient::nearest;
 use fixed_num::lerp;
 
-// Up to this rise and run a line needs no numbers of 128 bits.
+// Up to this rise a line needs no numbers of 128 bits.
 const SMALL: u64 = 2_147_483_647;
 
-/// The value at `x` of the straight line through `(x0, y0)` and `(x1, y1)`, rounded once to the nearest.
+/// The value after `part` of a `run` of the straight line from `y0` to `y1`, rounded once to the nearest.
 ///
-/// `x` lies in `x0` to `x1`, which differ. `inverse` is the [`inverse`](crate::inverse) of `x1 - x0`: any other number
-/// leaves the result as it is, and costs a division. Source: this project's profile.
-pub fn line_at(x0: i64, y0: i64, x1: i64, y1: i64, x: i64, inverse: u64) -> i64
-    requires from { x0 ≤ℤ x }
-    requires to { x ≤ℤ x1 }
-    requires apart { x0 <ℤ x1 }
-    ensures { result ≡ lerp_of x0 y0 x1 y1 x }
+/// `run` is above 0 and below 2^31, and `part` is at most `run`. `inverse` is the [`inverse`](crate::inverse) of
+/// `run`: any other number leaves the result as it is, and costs a division. Source: this project's profile.
+pub fn line_at(y0: i64, y1: i64, part: u64, run: u64, inverse: u64) -> i64
+    requires part { part ≤ run }
+    requires run { 0 < run }
+    requires small { run < 2 ^ 31 }
+    ensures { result ≡ lerp_of (pos 0) y0 (pos run) y1 (pos part) }
 {
-    if y0 == y1 {
-        return y0;
-    }
     let rise = y1.abs_diff(y0);
-    let run = x1.abs_diff(x0);
     if rise > SMALL {
-        return lerp(x0, y0, x1, y1, x);
+        return steep_line_at(y0, y1, part, run);
     }
-    if run > SMALL {
-        return lerp(x0, y0, x1, y1, x);
-    }
-    let share = share(rise, x.abs_diff(x0), run, inverse);
+    let share = share(rise, part, run, inverse);
     if y0 < y1 { y0 + share } else { y0 - share }
+}
+
+// The same by numbers of 128 bits.
+#[cold]
+#[inline(never)]
+fn steep_line_at(y0: i64, y1: i64, part: u64, run: u64) -> i64
+    requires part { part ≤ run }
+    requires run { 0 < run }
+    requires small { run < 2 ^ 31 }
+    ensures { result ≡ lerp_of (pos 0) y0 (pos run) y1 (pos part) }
+{
+    lerp(0, y0, run as i64, y1, part as i64)
 }
 
 // What `part` of `run` is of `rise`, rounded to the nearest.

@@ -36,7 +36,7 @@ pub fn quick_root2(a: i128) -> i128
     ensures { result ≡ root2_of a }
 {
     if a >= SHORT {
-        return root2(a);
+        return any_root2(a);
     }
     let short = a as u64;
     let guess = guess_root2(short);
@@ -46,6 +46,16 @@ pub fn quick_root2(a: i128) -> i128
     if is_root2(short, guess + 1) {
         return (guess + 1) as i128;
     }
+    any_root2(a)
+}
+
+// The same by halving.
+#[cold]
+#[inline(never)]
+fn any_root2(a: i128) -> i128
+    requires { pos 0 ≤ℤ a }
+    ensures { result ≡ root2_of a }
+{
     root2(a)
 }
 

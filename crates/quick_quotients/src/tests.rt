@@ -10,10 +10,10 @@ fn quotients_need_no_good_inverse(rt: HostRuntime) {
 
 #[test]
 fn lines_rise_and_fall(rt: HostRuntime) {
-    assert!(rt; line_at(0, 10, 4, 20, 1, inverse(4)) == 13);
-    assert!(rt; line_at(0, 20, 4, 10, 1, inverse(4)) == 17);
-    assert!(rt; line_at(0, 20, 4, 20, 1, 0) == 20);
-    assert!(rt; line_at(0, 0, 4, 40_000_000_000, 3, 0) == 30_000_000_000);
+    assert!(rt; line_at(10, 20, 1, 4, inverse(4)) == 13);
+    assert!(rt; line_at(20, 10, 1, 4, inverse(4)) == 17);
+    assert!(rt; line_at(20, 20, 1, 4, 0) == 20);
+    assert!(rt; line_at(0, 40_000_000_000, 3, 4, 0) == 30_000_000_000);
 }
 
 #[test]

@@ -7,3 +7,4 @@ pub mod LookUpLemmas
 pub mod TableLemmas
 pub mod FlowLemmas
 pub mod FirstLemmas
+pub mod PlainLemmas

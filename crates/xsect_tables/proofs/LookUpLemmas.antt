@@ -1,5 +1,8 @@
 -- The strip in which a depth lies, and the range of a row at a depth.
-use Rattle.std.proofs.Common.{◌≡◌, ℕ, zero, suc, ◌+◌, ◌*◌, ◌/◌, ◌^◌, ◌<◌, ◌≤◌, Bool, true, false, cond, leb, List, ℤ, pos, negsuc, ◌≤ℤ◌, int_le, unsigned_abs, sym, refl, ap, subst, ◌∙◌, inl, inr, arith, ◌-ℤ◌, ◌<ℤ◌}
+use Rattle.std.proofs.Common.{◌≡◌, ℕ, zero, suc, ◌+◌, ◌*◌, ◌/◌, ◌^◌, ◌<◌, ◌≤◌, Bool, true, false, cond, leb, List, ℤ, pos, negsuc, ◌≤ℤ◌, int_le, unsigned_abs, Fits, sym, refl, ap, subst, ◌∙◌, inl, inr, arith, ◌-ℤ◌, ◌<ℤ◌}
+use lib.Dec.{T}
+use lib.Signed.{non_neg}
+use Rattle.std.specs.Int.{w64}
 use Rattle.std.proofs.lemmas.Bool.{cases_lt, le-leb, lt-leb, leb-true, leb-false}
 use Rattle.std.proofs.lemmas.Nat.{mul-le, div-add-mod'}
 use Rattle.std.proofs.lemmas.Int.{ints}
@@ -224,3 +227,32 @@ strip_by_ends {heights = heights} {y = pos y} i g h most low high =
     let from : grid f.0 i ≤ y = omega (arith, ints, low, here) in
     sym (strip_is f.0 y i g f.1 most from (λ k. omega (arith, ints, high k, next)))
 strip_by_ends {heights = heights} {y = negsuc y} i g h most low high = absurd h.le
+
+-- ---- how far a depth lies above the lower grid height of its strip, and how high the strip is
+pub part_within : {heights : List ℤ} {y : ℤ} {i : ℕ} → IsGrid heights → IsStrip heights y i → IsBetween (pos 0) (y -ℤ entry heights i) (pos (10 ^ 9))
+part_within {i = i} g s =
+    let low = height_between g i (omega (arith, s.within)) in
+    let high = height_between g (i + 1) (omega (arith, s.within)) in
+    record { from = omega (arith, ints, s.from); to = omega (arith, ints, s.to, low.from, high.to) }
+
+pub run_within : {heights : List ℤ} {y : ℤ} {i : ℕ} → IsGrid heights → IsStrip heights y i → IsBetween (pos 0) (entry heights (i + 1) -ℤ entry heights i) (pos (10 ^ 9))
+run_within {i = i} g s =
+    let low = height_between g i (omega (arith, s.within)) in
+    let high = height_between g (i + 1) (omega (arith, s.within)) in
+    record { from = omega (arith, ints, s.apart); to = omega (arith, ints, low.from, high.to) }
+
+pub size_is : {z : ℤ} → IsBetween (pos 0) z (pos (10 ^ 9)) → pos (unsigned_abs z) ≡ z
+size_is {z = pos n} h = refl
+size_is {z = negsuc n} h = absurd h.from.le
+
+pub size_fits : {z : ℤ} → IsBetween (pos 0) z (pos (10 ^ 9)) → T (non_neg z) × Fits w64 (unsigned_abs z)
+size_fits {z = pos n} h = (tt, omega (arith, ints, h.to))
+size_fits {z = negsuc n} h = absurd h.from.le
+
+-- a line does not change where it is moved along its first axis
+pub moved : (x0 y0 x1 y1 x : ℤ) → lerp_of (pos 0) y0 (x1 -ℤ x0) y1 (x -ℤ x0) ≡ lerp_of x0 y0 x1 y1 x
+unfolding lerp_of
+moved x0 y0 x1 y1 x =
+    let part : (x -ℤ x0) -ℤ pos 0 ≡ x -ℤ x0 = omega (arith, ints) in
+    let run : (x1 -ℤ x0) -ℤ pos 0 ≡ x1 -ℤ x0 = omega (arith, ints) in
+    rw (part, run) refl

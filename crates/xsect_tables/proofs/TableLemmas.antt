@@ -133,6 +133,10 @@ areas_are section s = record {
   each = λ i h. rw (entry-row_of (grid_area section) i h, entry-row_of (grid_area section) 200 (omega arith)) (grid_area-full section i s h);
 }
 
+pub full_area_is : (section : Section) → full_area (table_of section) ≡ grid_area section 200
+unfolding table_of
+full_area_is section = entry-row_of (grid_area section) 200 (omega arith)
+
 -- ---- the slot
 pub slot-between : {table : SectionTable} → IsTable table → IsBetween (pos 0) (slot_width table) (pos (10 ^ 7))
 unfolding slot_width

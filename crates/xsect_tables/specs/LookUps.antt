@@ -33,11 +33,18 @@ row_at heights row y =
     let depth = cut_of y (pos 0) (entry heights 200) in
     value_at heights row depth (strip_at heights depth)
 
+-- the strip of a place lies around its depth, which is so far above the strip's lower grid height; and the strip is so
+-- high
+pub record IsAround (heights : List ℤ) (place : Place) : Type 0 where
+  pub strip : IsStrip heights place.depth place.strip
+  pub part : pos place.part ≡ place.depth -ℤ entry heights place.strip
+  pub run : pos place.run ≡ entry heights (place.strip + 1) -ℤ entry heights place.strip
+
 -- where a depth lies: the depth brought into 0 to the full height, and the strip around it
 pub record IsPlace (heights : List ℤ) (y : ℤ) (place : Place) : Type 0 where
   pub depth : place.depth ≡ cut_of y (pos 0) (entry heights 200)
   pub strip : place.strip ≡ strip_at heights place.depth
-  pub around : IsStrip heights place.depth place.strip
+  pub around : IsAround heights place
 
 -- ---- the slot above the top of a closed section, in which water under pressure rises
 -- its width: a hundredth of the full height

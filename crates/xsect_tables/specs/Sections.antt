@@ -33,3 +33,11 @@ top_width (RectClosed width) = width
 top_width (Trapezoidal bottom left6 right6) = pos 0
 top_width (Triangular top) = pos 0
 top_width Circular = pos 0
+
+-- no width of the shape is above 10^10 µm: all but a trapezoid's, whose sides may spread further
+abbrev pub is_narrow : Shape → Bool
+is_narrow (RectOpen width) = true
+is_narrow (RectClosed width) = true
+is_narrow (Trapezoidal bottom left6 right6) = false
+is_narrow (Triangular top) = true
+is_narrow Circular = true

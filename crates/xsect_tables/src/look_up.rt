@@ -3,16 +3,18 @@ ghost use Rattle.std.specs.Prelude.{◌≡◌, ℕ, ◌+◌, ◌*◌, ◌/◌, �
 ghost use Rattle.std.specs.Int.RustNames.{unsigned_abs};
 ghost use Rattle.fixed_num.specs.Ranges.{IsBetween, IsFullHeight, cut_of};
 ghost use Rattle.xsect_tables.specs.SectionTable.{entry, IsGrid};
-ghost use Rattle.xsect_tables.specs.LookUps.{IsPlace, IsStrip, value_at as value_of, strip_at as strip_of};
+ghost use Rattle.xsect_tables.specs.LookUps.{IsAround, IsPlace, IsStrip, value_at as value_of, strip_at as strip_of};
 
 use quick_quotients::{inverse, line_at};
 
-// Where a depth lies: the depth itself, brought into 0 to the full height, and the strip around it; with the inverse
-// of that strip's height, for the look-ups.
+// Where a depth lies: the depth itself, brought into 0 to the full height, and the strip around it; with how far above
+// the strip's lower end it lies, the strip's height and the inverse of that, for the look-ups.
 #[derive(Clone, Copy, Debug)]
 pub(crate) struct Place {
     pub(crate) depth: i64,
     pub(crate) strip: usize,
+    pub(crate) part: u64,
+    pub(crate) run: u64,
     pub(crate) inverse: u64,
 }
 
@@ -46,10 +48,25 @@ pub(crate) fn place_of(heights: &[i64; 201], inverses: &Inverses, y: i64) -> Pla
 {
     let depth = held(y, heights[200]);
     let strip = strip_near(heights, depth, guess_strip(inverses.full, depth));
+    in_strip(heights, inverses, depth, strip)
+}
+
+// The place of a depth in the strip around it.
+fn in_strip(heights: &[i64; 201], inverses: &Inverses, depth: i64, strip: usize) -> Place
+    requires grid { IsGrid heights.now }
+    requires around { IsStrip heights.now depth strip }
+    ensures depth { result.depth ≡ depth }
+    ensures strip { result.strip ≡ strip }
+    ensures around { IsAround heights.now result }
+{
+    let low = heights[strip];
+    let run = heights[strip + 1] - low;
     Place {
         depth,
         strip,
-        inverse: strip_inverse(heights, inverses, strip),
+        part: (depth - low) as u64,
+        run: run as u64,
+        inverse: strip_inverse(inverses, run),
     }
 }
 
@@ -69,10 +86,8 @@ fn held(y: i64, full: i64) -> i64
 }
 
 // The inverse of the height of a strip.
-fn strip_inverse(heights: &[i64; 201], inverses: &Inverses, i: usize) -> u64
-    requires { i < 200 }
-{
-    if heights[i + 1].wrapping_sub(heights[i]) == inverses.strip {
+fn strip_inverse(inverses: &Inverses, run: i64) -> u64 {
+    if run == inverses.strip {
         return inverses.lower;
     }
     inverses.higher
@@ -81,18 +96,11 @@ fn strip_inverse(heights: &[i64; 201], inverses: &Inverses, i: usize) -> u64
 // A row at the depth of a place.
 pub(crate) fn value_at(heights: &[i64; 201], row: &[i64; 201], place: &Place) -> i64
     requires grid { IsGrid heights.now }
-    requires around { IsStrip heights.now place.now.depth place.now.strip }
+    requires around { IsAround heights.now place.now }
     ensures { result ≡ value_of heights.now row.now place.now.depth place.now.strip }
 {
     let i = place.strip;
-    line_at(
-        heights[i],
-        row[i],
-        heights[i + 1],
-        row[i + 1],
-        place.depth,
-        place.inverse,
-    )
+    line_at(row[i], row[i + 1], place.part, place.run, place.inverse)
 }
 
 // A strip near a depth.

@@ -1,8 +1,8 @@
 // The rows of a table, each from the section.
-ghost use Rattle.std.specs.Prelude.{◌≡◌, ℕ, ◌+◌, ◌*◌, ◌^◌, ◌<◌, ◌≤◌, ℤ, pos};
+ghost use Rattle.std.specs.Prelude.{◌≡◌, ℕ, ◌+◌, ◌*◌, ◌^◌, ◌<◌, ◌≤◌, ℤ, pos, IsTrue};
 ghost use Rattle.fixed_num.specs.Ranges.{IsWithin, IsBetween, IsFullHeight, IsWidth, IsCoefficient};
 ghost use Rattle.net_types.specs.Ranges.{SectionInRange};
-ghost use Rattle.xsect_tables.specs.Sections.{shape_width, top_width as width_of_top, width_at as section_width};
+ghost use Rattle.xsect_tables.specs.Sections.{shape_width, top_width as width_of_top, width_at as section_width, is_narrow};
 ghost use Rattle.xsect_tables.specs.SectionTable.{row_of, grid_height as height_of_grid, grid_width as width_of_grid};
 ghost use Rattle.xsect_tables.specs.SectionTable.{grid_area};
 ghost use Rattle.xsect_tables.specs.SectionTable.{grid_perimeter, wetted_perimeter, strip_area as area_of_strip};
@@ -185,4 +185,31 @@ fn side_perimeters(section: &Section) -> [i64; 201]
         row[i + 1] = wet;
     }
     row
+}
+
+// A strip of at least this area, in µm², makes the full area at least 1 mm².
+const LEAST_STRIP: i128 = 1_000_000;
+
+// Up to this full height, in µm, a narrow section has at most 10^11 mm².
+const LOW: i64 = 10_000_000;
+
+// Whether the full area of a section is plainly 1 to 10^11 mm²: by its shape, its height and one strip. No sum is made.
+pub(crate) fn has_plain_area(section: &Section) -> bool
+    requires { SectionInRange section.now }
+    ensures { IsTrue result → IsBetween (pos 1) (grid_area section.now 200) (pos (10 ^ 11)) }
+{
+    if !is_narrow(&section.shape) {
+        return false;
+    }
+    if section.full > LOW {
+        return false;
+    }
+    strip_area(section, 100) >= LEAST_STRIP
+}
+
+// Whether no width of a shape is above 10^10 µm.
+fn is_narrow(shape: &Shape) -> bool
+    ensures { result ≡ is_narrow shape.now }
+{
+    !matches!(shape, Shape::Trapezoidal { .. })
 }

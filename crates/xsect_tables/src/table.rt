@@ -1,5 +1,5 @@
 // The table of a section.
-ghost use Rattle.std.specs.Prelude.{◌≡◌, ◌≤◌, ◌*◌, ◌^◌, ℤ, pos, ◌≤ℤ◌};
+ghost use Rattle.std.specs.Prelude.{◌≡◌, ◌≤◌, ◌*◌, ◌^◌, ℤ, pos, ◌≤ℤ◌, IsTrue};
 ghost use Rattle.fixed_num.specs.Ranges.{IsBetween, IsFullHeight, AreBarrels, IsFall};
 ghost use Rattle.fixed_num.specs.Rounding.{quo_of};
 ghost use Rattle.net_types.specs.Ranges.{SectionInRange};
@@ -11,7 +11,7 @@ ghost use Rattle.xsect_tables.specs.LookUps.{is_in_slot as reaches_into_slot, sl
 
 use crate::flow::ratio;
 use crate::look_up::{Inverses, Place, inverses_of, place_of, value_at};
-use crate::rows::{areas, heights, perimeters, widths};
+use crate::rows::{areas, has_plain_area, heights, perimeters, widths};
 use fixed_num::quo;
 use net_types::{Section, Shape};
 use std::marker::Model;
@@ -94,6 +94,17 @@ impl Table {
         ensures { result ≡ area_of_table (table_of section.now) }
     {
         areas(section)[200]
+    }
+
+    /// Whether the area below the full height of a section is plainly 1 to 10^11 mm², which a few numbers tell; where
+    /// they don't, [`Table::section_area`] does.
+    ///
+    /// Source: this project's profile.
+    pub fn has_plain_area(section: &Section) -> bool
+        requires { SectionInRange section.now }
+        ensures { IsTrue result → IsBetween (pos 1) (area_of_table (table_of section.now)) (pos (10 ^ 11)) }
+    {
+        has_plain_area(section)
     }
 
     /// The number of barrels.

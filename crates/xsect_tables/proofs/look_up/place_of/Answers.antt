@@ -1,7 +1,8 @@
-use Rattle.std.proofs.Common.{◌≡◌, pos, arith}
+use Rattle.std.proofs.Common.{◌≡◌, ◌∙◌, pos, ap, sym, arith}
 use Rattle.std.proofs.lemmas.Int.{to_z-of_z}
 use Rattle.fixed_num.specs.Ranges.{cut_of}
 use Rattle.fixed_num.proofs.Bounds.{within_between, fits64}
+use Rattle.xsect_tables.specs.LookUps.{strip_at}
 use Rattle.xsect_tables.specs.SectionTable.{entry}
 use Rattle.xsect_tables.proofs.LookUpLemmas.{height_between, depth_small, depth_within, depth_around}
 use Rattle.xsect_tables.proofs.look_up.place_of.Goals as goal
@@ -28,10 +29,21 @@ strip_near-strip-requires-clause-depth c =
     let small = depth_small c.args.y c.requires e in
     simp (to_z-of_z, fits64 (within_between small) tt) (rw e (depth_within c.args.y c.requires))
 
+pub in_strip-requires-clause-around : goal.in_strip-requires-clause-around
+in_strip-requires-clause-around c =
+    let e = depth_is (goal.at.in_strip-requires-clause-around c).After-held-depth in
+    let near = within_between (depth_small c.args.y c.requires e) in
+    let strip = simp (to_z-of_z, fits64 near tt) at c.strip_near-strip.ensures.value in
+    simp (to_z-of_z, fits64 near tt) (depth_around c.args.y c.requires e strip)
+
 pub returns : goal.returns
 returns c =
     let e = depth_is (goal.at.returns c).After-held-depth in
     let near = within_between (depth_small c.args.y c.requires e) in
     let strip = simp (to_z-of_z, fits64 near tt) at c.strip_near-strip.ensures.value in
-    let around = depth_around c.args.y c.requires e strip in
-    simp (to_z-of_z, fits64 near tt) (record { depth = e; strip = strip; around = around })
+    let depth = simp (to_z-of_z, fits64 near tt) at c.in_strip.ensures.depth in
+    record {
+      depth = depth ∙ e;
+      strip = c.in_strip.ensures.strip ∙ strip ∙ ap (strip_at c.args.heights.now) (sym depth);
+      around = c.in_strip.ensures.around;
+    }
