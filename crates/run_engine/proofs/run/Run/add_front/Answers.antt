@@ -8,7 +8,7 @@ use Rattle.run_engine.proofs.RunLemmas.{run_dates}
 use Rattle.run_engine.proofs.run.Run.add_front.Goals as goal
 
 pub add_head-requires : goal.add_head-requires
-add_head-requires g c = run_dates c.self.inside.start.project c.self.invariant.0.ready
+add_head-requires g c = record { dates = run_dates c.self.inside.start.project c.self.invariant.0.ready }
 
 pub returns-clause-text : goal.returns-clause-text
 returns-clause-text g c =
