@@ -1,4 +1,5 @@
 ghost use Rattle.std.specs.Prelude.{◌≡◌, true, false};
+ghost use Rattle.std.specs.Thread.{IsSync};
 ghost use Rattle.node_board.specs.Claims.{HasNew};
 ghost use Rattle.node_board.specs.Seen.{IsOf};
 ghost use Rattle.node_board.specs.Shows.{work_of};
@@ -11,6 +12,7 @@ use crate::inputs::Sums;
 use crate::resets::stopped;
 use net_types::OutOfMemory;
 use phase_law::{LinkFixed, NodeFixed, NodeNext, PhaseLaw, Share};
+use std::thread::{Threads, join};
 
 /// Two links in a row, from node 0 to 1 and from 1 to 2, each with the same share; each node gets the head 500, and the
 /// one in the middle alone is settled.
@@ -137,6 +139,62 @@ fn make_item<P: PhaseLaw>(board: &Board<P>, seat: &mut Seat<P>)
         Claim::Node(node) => make_node(board, seat, node),
         Claim::NoItem(_) => {}
     }
+}
+
+/// Claims two items and makes their acts, each in a thread of its own.
+fn make_two_items<R: Threads, P: PhaseLaw + Sync>(
+    rt: &R,
+    board: &Board<P>,
+    one: Seat<P>,
+    other: Seat<P>,
+)
+    requires one { IsOf board.now one }
+    requires one_free { (work_of one.view).stage ≡ 0 }
+    requires other { IsOf board.now other }
+    requires other_free { (work_of other.view).stage ≡ 0 }
+{
+    join(
+        rt,
+        move ||
+            requires { IsSync P.row × IsOf board.now one × ((work_of one.view).stage ≡ 0) }
+        {
+            let mut seat = one;
+            make_item(board, &mut seat);
+        },
+        move ||
+            requires { IsSync P.row × IsOf board.now other × ((work_of other.view).stage ≡ 0) }
+        {
+            let mut seat = other;
+            make_item(board, &mut seat);
+        },
+    );
+}
+
+#[test]
+fn two_threads_share_a_trial(rt: HostRuntime) -> Result<(), OutOfMemory> {
+    let (board, mut lead) = Board::open(rt.alloc(), TwoLinks)?;
+    let mut seat = board.split(&mut lead);
+    let one = board.split(&mut lead);
+    let other = board.split(&mut lead);
+    let third = board.split(&mut lead);
+    let fourth = board.split(&mut lead);
+    board.open_links(&mut lead, true);
+    make_two_items(&rt, &board, one, other);
+    let Ok(Closed) = board.close(&mut lead) else {
+        panic!(rt; "both links are done")
+    };
+    assert_eq!(rt; board.read_flow(&mut lead, 0), 7);
+    assert_eq!(rt; board.read_flow(&mut lead, 1), 7);
+    board.open_nodes(&mut lead);
+    make_two_items(&rt, &board, third, fourth);
+    make_item(&board, &mut seat);
+    let Ok(Closed) = board.close(&mut lead) else {
+        panic!(rt; "all nodes are done")
+    };
+    assert_eq!(rt; board.read_head(&mut lead, 0), 500);
+    assert_eq!(rt; board.least(&mut lead), 1_000);
+    assert_eq!(rt; board.unsettled(&mut lead), 2);
+    Ok(())
 }
 
 #[test]
