@@ -3,23 +3,16 @@
 //! A board is a table of `atomic_table` whose words stand for the numbers of the phase machine (`specs/Coding.antt`).
 //! Each seat knows what it does; the lead also knows what was opened and, while no phase is open, all words
 //! (`src/views.rt`). The rule of the board (`specs/Rule.antt`) says what holds between any two steps: words and views
-//! show a core that events of the phase machine reach from its start, so its laws hold of the board.
+//! show a core that events of the phase machine reach from its start, so its laws hold of the board. Boards are opened
+//! by the rule, and each kind of atomic step keeps it, in any order ([`workers_keep_the_rule`],
+//! [`leads_keep_the_rule`]).
 //!
-//! Each kind of atomic step keeps the rule, whatever the order of the steps: a board is opened by the rule and seats
-//! are split from the lead ([`boards_open_by_the_rule`]), workers keep the rule ([`workers_keep_the_rule`]), and so
-//! does the lead ([`leads_keep_the_rule`]).
-//!
-//! Workers make these steps by their calls, in this order: [`Board::claim`]; of a link [`Board::load_link`], the four
-//! adds, [`Board::offer_time`] and [`Board::put_flow`]; of a node [`Board::load_node`], [`Board::put_head`] and, where
-//! it isn't settled, [`Board::mark_unsettled`]; then [`Board::done`]. What a claim tells is in `specs/Claims.antt`,
-//! what a seat holds between its acts in `specs/Acts.antt`.
-//!
-//! [`Board::open`] gives a board and its lead, and [`Board::split`] a seat of a worker. While no phase is open, the
-//! lead sets what the next trial reads ([`Board::set_link`], [`Board::set_node`]), opens a phase
-//! ([`Board::open_links`], [`Board::open_nodes`]), stops the board ([`Board::stop`]) or reads the state that it knows
-//! ([`Board::read_flow`], [`Board::read_head`], [`Board::read_sums`], [`Board::least`], [`Board::unsettled`]).
-//! [`Board::close`] closes a phase once all its items are done. What the lead knows, and how its calls change it, is in
-//! `specs/Known.antt`. From one opening of links to the close of its nodes, that is the trial that one worker makes
+//! [`Board::open`] gives a board and its lead, [`Board::split`] a seat of a worker. Workers call [`Board::claim`]; of a
+//! link [`Board::load_link`], the four adds, [`Board::offer_time`], [`Board::put_flow`]; of a node
+//! [`Board::load_node`], [`Board::put_head`] and, where it isn't settled, [`Board::mark_unsettled`]; then
+//! [`Board::done`] (`specs/Claims.antt`, `Acts`). While no phase is open, the lead sets what the next trial reads,
+//! opens a phase, reads or stops; [`Board::close`] closes a phase once all its items are done (`specs/Known.antt`).
+//! From one opening of links to the close of its nodes, that is the trial that one worker makes
 //! ([`closed_phases_are_those_of_a_trial`]).
 #![tactic(auto)]
 

@@ -27,7 +27,7 @@ pub(crate) const CONDUIT_NAMES: Lines = Lines {
     203 0  | C9 J1 J2 100 0.013 0
     203 C9 | C9
     207 C1 | C1 J1 J2 100 0.013 0 0 0 0
-    207 W1 | W1 J1 J2 100 0.013 0 0 0 0
+    207 WE1 | WE1 J1 J2 100 0.013 0 0 0 0
     ",
     below: "",
 };
@@ -57,26 +57,26 @@ pub(crate) const PUMPS: Lines = Lines {
 pub(crate) const ORIFICES: Lines = Lines {
     above: "[ORIFICES]",
     rows: "
-    good    | R9 J1 J2 SIDE 0.5 0.65 YES 0
-    good    | R9 J1 J2 BOTTOM 0 0.65
-    209 J7  | R9 J7 J2 SIDE 0.5 0.65 YES 0
-    209 J8  | R9 J1 J8 SIDE 0.5 0.65 YES 0
-    205 TOP | R9 J1 J2 TOP 0.5 0.65 YES 0
-    211 -1  | R9 J1 J2 SIDE -1 0.65 YES 0
-    211 101 | R9 J1 J2 SIDE 0.5 101 YES 0
-    205 ON  | R9 J1 J2 SIDE 0.5 0.65 ON 0
-    401 2   | R9 J1 J2 SIDE 0.5 0.65 YES 2
-    401 x   | R9 J1 J2 SIDE 0.5 0.65 YES x
+    good    | OR9 J1 J2 SIDE 0.5 0.65 YES 0
+    good    | OR9 J1 J2 BOTTOM 0 0.65
+    209 J7  | OR9 J7 J2 SIDE 0.5 0.65 YES 0
+    209 J8  | OR9 J1 J8 SIDE 0.5 0.65 YES 0
+    205 TOP | OR9 J1 J2 TOP 0.5 0.65 YES 0
+    211 -1  | OR9 J1 J2 SIDE -1 0.65 YES 0
+    211 101 | OR9 J1 J2 SIDE 0.5 101 YES 0
+    205 ON  | OR9 J1 J2 SIDE 0.5 0.65 ON 0
+    401 2   | OR9 J1 J2 SIDE 0.5 0.65 YES 2
+    401 x   | OR9 J1 J2 SIDE 0.5 0.65 YES x
     ",
-    below: "[XSECTIONS]\nR9 RECT_CLOSED 0.3 0.5",
+    below: "[XSECTIONS]\nOR9 RECT_CLOSED 0.3 0.5",
 };
 
 // The first items of them.
 pub(crate) const ORIFICE_NAMES: Lines = Lines {
     above: "[ORIFICES]",
     rows: "
-    203 0.5 | R9 J1 J2 SIDE 0.5
-    207 R1  | R1 J1 J2 SIDE 0.5 0.65
+    203 0.5 | OR9 J1 J2 SIDE 0.5
+    207 OR1 | OR1 J1 J2 SIDE 0.5 0.65
     207 C1  | C1 J1 J2 SIDE 0.5 0.65
     ",
     below: "",
@@ -86,36 +86,36 @@ pub(crate) const ORIFICE_NAMES: Lines = Lines {
 pub(crate) const WEIRS: Lines = Lines {
     above: "[WEIRS]",
     rows: "
-    good         | W9 J1 J2 TRANSVERSE 1 1.8 YES 2
-    good         | W9 J1 J2 TRANSVERSE 0 1.8
-    209 J7       | W9 J7 J2 TRANSVERSE 1 1.8 YES 2
-    209 J8       | W9 J1 J8 TRANSVERSE 1 1.8 YES 2
-    401 SIDEFLOW | W9 J1 J2 SIDEFLOW 1 1.8 YES 2
-    211 -1       | W9 J1 J2 TRANSVERSE -1 1.8 YES 2
-    211 -1.8     | W9 J1 J2 TRANSVERSE 1 -1.8 YES 2
-    205 OPEN     | W9 J1 J2 TRANSVERSE 1 1.8 OPEN 2
-    211 3        | W9 J1 J2 TRANSVERSE 1 1.8 YES 3
-    211 1.0      | W9 J1 J2 TRANSVERSE 1 1.8 YES 1.0
+    good         | WE9 J1 J2 TRANSVERSE 1 1.8 YES 2
+    good         | WE9 J1 J2 TRANSVERSE 0 1.8
+    209 J7       | WE9 J7 J2 TRANSVERSE 1 1.8 YES 2
+    209 J8       | WE9 J1 J8 TRANSVERSE 1 1.8 YES 2
+    401 SIDEFLOW | WE9 J1 J2 SIDEFLOW 1 1.8 YES 2
+    211 -1       | WE9 J1 J2 TRANSVERSE -1 1.8 YES 2
+    211 -1.8     | WE9 J1 J2 TRANSVERSE 1 -1.8 YES 2
+    205 OPEN     | WE9 J1 J2 TRANSVERSE 1 1.8 OPEN 2
+    211 3        | WE9 J1 J2 TRANSVERSE 1 1.8 YES 3
+    211 1.0      | WE9 J1 J2 TRANSVERSE 1 1.8 YES 1.0
     ",
-    below: "[XSECTIONS]\nW9 RECT_OPEN 1 2",
+    below: "[XSECTIONS]\nWE9 RECT_OPEN 1 2",
 };
 
 // The same for a notch, and the first items of both.
 pub(crate) const NOTCHES: Lines = Lines {
     above: "[WEIRS]",
     rows: "
-    good | W9 J1 J2 V-NOTCH 1 1.4 NO 0
-    good | W9 J1 J2 v-notch 1 1.4
+    good | WE9 J1 J2 V-NOTCH 1 1.4 NO 0
+    good | WE9 J1 J2 v-notch 1 1.4
     ",
-    below: "[XSECTIONS]\nW9 TRIANGULAR 1 2",
+    below: "[XSECTIONS]\nWE9 TRIANGULAR 1 2",
 };
 
 pub(crate) const WEIR_NAMES: Lines = Lines {
     above: "[WEIRS]",
     rows: "
-    203 1  | W9 J1 J2 TRANSVERSE 1
-    203 1  | W9 J1 J2 V-NOTCH 1
-    207 W1 | W1 J1 J2 TRANSVERSE 1 1.8
+    203 1  | WE9 J1 J2 TRANSVERSE 1
+    203 1  | WE9 J1 J2 V-NOTCH 1
+    207 WE1 | WE1 J1 J2 TRANSVERSE 1 1.8
     207 P1 | P1 J1 J2 V-NOTCH 1 1.4
     ",
     below: "",

@@ -33,8 +33,8 @@ pub(crate) const TESTS: Lines = Lines {
     good       | IF LINK C1 FLOW < 0.1
     good       | IF CONDUIT C1 STATUS = OPEN
     good       | IF PUMP P1 STATUS = OFF
-    good       | IF ORIFICE R1 SETTING <= 0.5
-    good       | IF WEIR W1 FLOW = 0
+    good       | IF ORIFICE OR1 SETTING <= 0.5
+    good       | IF WEIR WE1 FLOW = 0
     203 >      | IF NODE S1 DEPTH >
     205 GAGE   | IF GAGE G1 DEPTH > 2
     209 S7     | IF NODE S7 DEPTH > 2
@@ -46,7 +46,7 @@ pub(crate) const TESTS: Lines = Lines {
     211 high   | IF NODE S1 DEPTH > high
     211 -2     | IF NODE S1 DEPTH > -2
     205 SHUT   | IF PUMP P1 STATUS = SHUT
-    211 101    | IF ORIFICE R1 SETTING = 101
+    211 101    | IF ORIFICE OR1 SETTING = 101
     ",
     below: "AND NODE S1 DEPTH > 1\nTHEN PUMP P1 STATUS = ON",
 };
@@ -82,20 +82,20 @@ pub(crate) const ACTIONS: Lines = Lines {
     good        | THEN PUMP P1 STATUS = ON
     good        | THEN CONDUIT C1 STATUS = CLOSED
     good        | then pump P1 setting = 0.5
-    good        | THEN ORIFICE R1 SETTING = 0
-    good        | THEN WEIR W1 SETTING = 1
+    good        | THEN ORIFICE OR1 SETTING = 0
+    good        | THEN WEIR WE1 SETTING = 1
     203 =       | THEN PUMP P1 STATUS =
     401 NODE    | THEN NODE S1 STATUS = ON
     209 P7      | THEN PUMP P7 STATUS = ON
     209 C1      | THEN PUMP C1 STATUS = ON
-    209 R1      | THEN WEIR R1 SETTING = 1
+    209 OR1     | THEN WEIR OR1 SETTING = 1
     401 FLOW    | THEN PUMP P1 FLOW = 1
     401 SETTING | THEN CONDUIT C1 SETTING = 1
     205 :=      | THEN PUMP P1 STATUS := ON
     205 OPEN    | THEN PUMP P1 STATUS = OPEN
     205 ON      | THEN CONDUIT C1 STATUS = ON
-    211 1.1     | THEN ORIFICE R1 SETTING = 1.1
-    211 half    | THEN ORIFICE R1 SETTING = half
+    211 1.1     | THEN ORIFICE OR1 SETTING = 1.1
+    211 half    | THEN ORIFICE OR1 SETTING = half
     ",
     below: "",
 };
@@ -104,10 +104,10 @@ pub(crate) const ACTIONS: Lines = Lines {
 pub(crate) const ENDS: Lines = Lines {
     above: "[CONTROLS]\nRULE NEW\nIF NODE S1 DEPTH > 2\nTHEN PUMP P1 STATUS = ON",
     rows: "
-    good          | AND WEIR W1 SETTING = 1
+    good          | AND WEIR WE1 SETTING = 1
     good          | ELSE PUMP P1 STATUS = OFF
     good          | PRIORITY -2.5
-    209 W7        | AND WEIR W7 SETTING = 1
+    209 WE7       | AND WEIR WE7 SETTING = 1
     203 =         | ELSE PUMP P1 STATUS =
     211 2         | ELSE PUMP P1 SETTING = 2
     203 PRIORITY  | PRIORITY

@@ -51,7 +51,7 @@ pub(crate) const TRIANGLES: Lines = Lines {
     good      | C9 TRIANGULAR 1 2
     203 1     | C9 TRIANGULAR 1
     209 C7    | C7 TRIANGULAR 1 2
-    207 W1    | W1 TRIANGULAR 1 2
+    207 WE1   | WE1 TRIANGULAR 1 2
     211 -1    | C9 TRIANGULAR -1 2
     211 10001 | C9 TRIANGULAR 1 10001
     211 x     | C9 TRIANGULAR 1 2 x 0 3
@@ -87,7 +87,7 @@ pub(crate) const CIRCLES: Lines = Lines {
     good    | C9 CIRCULAR 1 0
     203 1   | C9 CIRCULAR 1
     209 C7  | C7 CIRCULAR 1 0 0 0 3
-    207 R1  | R1 CIRCULAR 1 0 0 0 3
+    207 OR1 | OR1 CIRCULAR 1 0 0 0 3
     211 1m  | C9 CIRCULAR 1m 0 0 0 3
     211 x   | C9 CIRCULAR 1 x 0 0 3
     211 y   | C9 CIRCULAR 1 0 y 0 3

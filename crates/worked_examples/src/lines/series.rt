@@ -45,38 +45,38 @@ pub(crate) const CURVES_THAT_GO_ON: Lines = Lines {
 pub(crate) const TIME_SERIES: Lines = Lines {
     above: "[TIMESERIES]",
     rows: "
-    good           | T9 01/01/2024 0:00 5 0:15 10
-    good           | T9 0 5 0.25 10
-    good           | T9 0:00 -5
-    203 T9         | T9
-    203 0:00       | T9 0:00
-    203 01/01/2024 | T9 01/01/2024
-    203 0:15       | T9 01/01/2024 0:00 5 0:15
-    401 FILE       | T9 FILE rain.dat
-    213 13/01/2024 | T9 13/01/2024 0:00 5 0:15
-    213 noon       | T9 noon 5 0:15 10
-    213 0:60       | T9 01/01/2024 0:60 5 1:15 10
-    213 -1         | T9 -1 5 1 10
-    211 much       | T9 0:00 much 0:15 10
-    211 more       | T9 0:00 5 0:15 more
-    173 0:15       | T9 0:15 5 0:15 10
-    173 0:14       | T9 01/01/2024 0:15 5 0:14 10
+    good           | TS9 01/01/2024 0:00 5 0:15 10
+    good           | TS9 0 5 0.25 10
+    good           | TS9 0:00 -5
+    203 TS9        | TS9
+    203 0:00       | TS9 0:00
+    203 01/01/2024 | TS9 01/01/2024
+    203 0:15       | TS9 01/01/2024 0:00 5 0:15
+    401 FILE       | TS9 FILE rain.dat
+    213 13/01/2024 | TS9 13/01/2024 0:00 5 0:15
+    213 noon       | TS9 noon 5 0:15 10
+    213 0:60       | TS9 01/01/2024 0:60 5 1:15 10
+    213 -1         | TS9 -1 5 1 10
+    211 much       | TS9 0:00 much 0:15 10
+    211 more       | TS9 0:00 5 0:15 more
+    173 0:15       | TS9 0:15 5 0:15 10
+    173 0:14       | TS9 01/01/2024 0:15 5 0:14 10
     ",
     below: "",
 };
 
 // A later line of the same series: name, date, pairs of hours and a number.
 pub(crate) const SERIES_THAT_GO_ON: Lines = Lines {
-    above: "[TIMESERIES]\nT9 01/02/2024 0:00 5 0:15 10",
+    above: "[TIMESERIES]\nTS9 01/02/2024 0:00 5 0:15 10",
     rows: "
-    good      | T9 0:30 5
-    good      | T9 01/03/2024 0:00 5
-    203 0:30  | T9 0:30
-    203 0:45  | T9 0:30 5 0:45
-    213 half  | T9 half 5
-    211 five  | T9 0:30 five
-    173 0:15  | T9 0:15 5
-    173 23:00 | T9 01/01/2024 23:00 5
+    good      | TS9 0:30 5
+    good      | TS9 01/03/2024 0:00 5
+    203 0:30  | TS9 0:30
+    203 0:45  | TS9 0:30 5 0:45
+    213 half  | TS9 half 5
+    211 five  | TS9 0:30 five
+    173 0:15  | TS9 0:15 5
+    173 23:00 | TS9 01/01/2024 23:00 5
     ",
     below: "",
 };
